@@ -1,0 +1,5 @@
+pub mod Buffers
+pub mod Counts
+pub mod Device
+pub mod Errnos
+pub mod Events

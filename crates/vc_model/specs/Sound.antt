@@ -1,0 +1,140 @@
+-- What holds of every context after every step.
+use Rattle.std.specs.Prelude.{ℕ, ◌≡◌, ◌<◌, ◌≤◌, ◌+◌, Bool, true, false, not, ◌&&◌, ◌==◌, nat_lt, nat_le, if◌then◌else◌, bit_and, is_none, is_some, Option, Some, None, List, [], ◌∷◌, ◌++◌, length}
+use Rattle.std.specs.List.{list_all}
+use Rattle.vc_base.specs.declared.Side.TheVariants.{Out, Cap}
+use Rattle.vc_base.specs.declared.Kind.{Kind}
+use Rattle.vc_base.specs.declared.Kind.TheVariants.{Copy, Enc, Dec}
+use Rattle.vc_base.specs.Buffers.{Buffer, QueueState, is_empty, buffers, buffer_count, last_flag}
+use Rattle.vc_model.specs.Coder.{CodecState, no_codec, encoder, decoder}
+use Rattle.vc_model.specs.Context.{Context, Slot, Running, RunSort, copy, encode, decode, probe, PhaseState, run, owe, last, stopped, is_run, is_drain, is_drained, sizeimage}
+
+-- how many buffers of the list have the index
+abbrev pub count_index : List Buffer → ℕ → ℕ
+count_index [] i = 0
+count_index (b ∷ bs) i = (if b.index == i then 1 else 0) + count_index bs i
+
+-- Each index below the number of buffers is that of one buffer of the queue, in one place, and no buffer
+-- has another index.
+abbrev pub OnceEach : QueueState → Type 0
+OnceEach q = (i : ℕ) → count_index (buffers q) i ≡ (if nat_lt i (buffer_count q) then 1 else 0)
+
+-- the ordinals of the buffers count up by one, from `first`; the one after the last is `next`
+abbrev pub CountsUp : List Buffer → ℕ → ℕ → Type 0
+CountsUp [] first next = first ≡ next
+CountsUp (b ∷ bs) first next = (b.ordinal ≡ first) × CountsUp bs (first + 1) next
+
+-- the buffers that wait for a run, the one in the job first, were queued one after another, and none since
+pub record AreLatest (q : QueueState) : Type 0 where
+  pub first : ℕ
+  pub counts : CountsUp (q.job ++ q.ready) first q.next_ordinal
+
+-- A queue that does not stream has nothing in the job or done, and begins its numbers anew. One that
+-- streams has a buffer.
+pub record IsSoundQueue (q : QueueState) : Type 0 where
+  pub once : OnceEach q
+  pub latest : AreLatest q
+  pub job_at_rest : q.streams ≡ false → q.job ≡ []
+  pub done_at_rest : q.streams ≡ false → q.done ≡ []
+  pub seq_at_rest : q.streams ≡ false → q.next_seq ≡ 0
+  pub filled : q.streams ≡ true → 0 < buffer_count q
+
+-- a run takes a CAPTURE buffer, and a probe none
+abbrev pub dest_count : RunSort → ℕ
+dest_count copy = 1
+dest_count encode = 1
+dest_count decode = 1
+dest_count probe = 0
+
+-- the buffers in the job are those of the run that goes on, which is in phase Run alone
+abbrev pub HasItsBuffers : Context → Option Running → Type 0
+HasItsBuffers c None = (c.out.job ≡ []) × (c.cap.job ≡ [])
+HasItsBuffers c (Some r) = (is_run c.phase ≡ true) × (length c.out.job ≡ 1) × (length c.cap.job ≡ dest_count r.sort)
+
+-- the codec state is one of the kind
+abbrev pub HasCodec : Kind → CodecState → Type 0
+HasCodec Copy no_codec = Unit {0}
+HasCodec Enc (encoder state) = Unit {0}
+HasCodec Dec (decoder state) = Unit {0}
+HasCodec kind codec = ⊥
+
+-- whether the flag LAST is on the final entry of the list
+abbrev pub ends_with_last : List Buffer → Bool
+ends_with_last [] = false
+ends_with_last (b ∷ []) = bit_and b.flags last_flag == last_flag
+ends_with_last (b ∷ (d ∷ bs)) = ends_with_last (d ∷ bs)
+
+abbrev pub is_last : PhaseState → Bool
+is_last run = false
+is_last (owe cause) = false
+is_last (last cause) = true
+is_last (stopped cause) = false
+
+abbrev pub stops_by_change : PhaseState → Bool
+stops_by_change run = false
+stops_by_change (owe cause) = not (is_drain cause)
+stops_by_change (last cause) = not (is_drain cause)
+stops_by_change (stopped cause) = not (is_drain cause)
+
+-- each buffer of the list has at least that size
+abbrev pub AreLong : ℕ → List Buffer → Type 0
+AreLong least bs = list_all (λ b. nat_le least b.size) bs ≡ true
+
+-- But for a stop by a change, each CAPTURE buffer that is ready or in the job has room for the present
+-- format, while CAPTURE streams.
+pub record LongEnough (c : Context) : Type 0 where
+  pub ready : c.cap.streams ≡ true → stops_by_change c.phase ≡ false → AreLong (sizeimage c Cap) c.cap.ready
+  pub job : c.cap.streams ≡ true → stops_by_change c.phase ≡ false → AreLong (sizeimage c Cap) c.cap.job
+
+-- a drain that has come to its end and was not noted
+abbrev pub is_put_off : Context → Bool
+is_put_off c = is_run c.phase && (c.cap.streams && (is_none c.running && is_drained c.out.ready c.mark))
+
+-- a LAST buffer that could be given and was not
+abbrev pub is_held_back : PhaseState → List Buffer → Bool
+is_held_back run ready = false
+is_held_back (owe cause) ready = not (is_empty ready)
+is_held_back (last cause) ready = false
+is_held_back (stopped cause) ready = false
+
+-- A drain is not put off: neither of the two is there.
+pub record IsSettled (c : Context) : Type 0 where
+  pub noted : is_put_off c ≡ false
+  pub given : is_held_back c.phase c.cap.ready ≡ false
+
+-- the end of a drain: its LAST buffer is due or is in done
+abbrev pub is_at_end : PhaseState → Bool
+is_at_end run = false
+is_at_end (owe cause) = is_drain cause
+is_at_end (last cause) = is_drain cause
+is_at_end (stopped cause) = false
+
+-- the mark is not above the number of buffers that were queued
+abbrev pub IsPast : Option ℕ → ℕ → Type 0
+IsPast None next = Unit {0}
+IsPast (Some mark) next = mark ≤ next
+
+-- What holds of a context but for settling.
+pub record IsFirm (c : Context) : Type 0 where
+  pub out_side : c.out.side ≡ Out
+  pub cap_side : c.cap.side ≡ Cap
+  pub out : IsSoundQueue c.out
+  pub cap : IsSoundQueue c.cap
+  pub has_buffers : HasItsBuffers c c.running
+  pub has_codec : HasCodec c.kind c.codec
+  -- a mark is there only while OUTPUT streams, and the context stops only while CAPTURE does
+  pub marked : is_some c.mark ≡ true → c.out.streams ≡ true
+  pub past : IsPast c.mark c.out.next_ordinal
+  -- at the end of a drain there is a mark, and no OUTPUT buffer before it is ready
+  pub drained : is_at_end c.phase ≡ true → is_drained c.out.ready c.mark ≡ true
+  pub stopping : is_run c.phase ≡ false → c.cap.streams ≡ true
+  pub ends : is_last c.phase ≡ true → ends_with_last c.cap.done ≡ true
+  pub long : LongEnough c
+
+pub record IsSound (c : Context) : Type 0 where
+  pub firm : IsFirm c
+  pub settled : IsSettled c
+
+-- a closed slot is sound
+abbrev pub IsSoundSlot : Slot → Type 0
+IsSoundSlot None = Unit {0}
+IsSoundSlot (Some c) = IsSound c
