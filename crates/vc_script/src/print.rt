@@ -214,7 +214,10 @@ fn put_answer(
     }
 }
 
-/// Appends the line that answers a call. Without memory nothing is appended.
+/// Appends the line that answers a call: the slot, the verb of the call's line, and `ok` with what the
+/// reply tells, the name of an errno, or `blocked`. Of a buffer taken from CAPTURE the used bytes follow,
+/// which are the first of the payload; otherwise the payload isn't looked at. Without memory nothing is
+/// appended.
 #[tactic(auto, unfolding(crate::specs::Texts::reply_text))]
 pub fn put_reply(
     alloc: Global,
