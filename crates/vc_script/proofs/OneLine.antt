@@ -1,5 +1,5 @@
 -- Printed lines have no line feed but at their end, and numbers have digits alone.
-use Rattle.std.proofs.Common.{◌≡◌, ℕ, zero, suc, ◌+◌, ◌/◌, ◌%◌, ◌<◌, ◌≤◌, ◌^◌, Bool, true, false, ◌&&◌, not, ◌==◌, nat_lt, nat_le, cond, List, [], ◌∷◌, ◌++◌, length, get_or, take, codes, decimal, refl, sym, ◌∙◌, ap, arith, append_assoc}
+use Rattle.std.proofs.Common.{◌≡◌, ℕ, zero, suc, ◌+◌, ◌/◌, ◌%◌, ◌<◌, ◌≤◌, ◌^◌, Bool, true, false, ◌&&◌, ◌==◌, nat_lt, nat_le, cond, List, [], ◌∷◌, ◌++◌, length, get_or, take, codes, decimal, refl, sym, ◌∙◌, ap, arith, append_assoc}
 use Rattle.std.specs.List.{list_all}
 use Rattle.std.specs.Fmt.{digit_glyph, digits_onto, digits}
 use Rattle.std.proofs.lemmas.Bool.{ne_eqb, leb-true}
@@ -203,8 +203,7 @@ pub reply_is_line : (slot : ℕ) (call : Call) (reply : Reply) (payload : List �
 unfolding reply_text
 reply_is_line slot call reply payload =
     let verb = verb_name (call_verb call) in
-    let words = spaced (answer_words call reply payload) in
-    (
+    let words = spaced (answer_words call reply payload) in (
       verb ++ words,
       append_assoc (decimal slot) (32 ∷ (verb ++ words)) (10 ∷ []),
       all_append stays_on_line verb words (verb_stays (call_verb call)) (spaced_stays (answer_words call reply payload) (answer_stays call reply payload)),

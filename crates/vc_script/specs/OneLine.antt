@@ -1,5 +1,5 @@
 -- What is printed is one line each time, and the line of a slot begins with its number and a space.
-use Rattle.std.specs.Prelude.{ℕ, ◌≡◌, ◌<◌, ◌^◌, ◌&&◌, ◌==◌, Bool, true, not, List, [], ◌∷◌, ◌++◌, codes, decimal}
+use Rattle.std.specs.Prelude.{ℕ, ◌≡◌, ◌<◌, ◌^◌, ◌&&◌, ◌==◌, Bool, true, not, List, [], ◌∷◌, ◌++◌, decimal}
 use Rattle.std.specs.List.{list_all}
 use Rattle.vc_base.specs.declared.Call.{Call}
 use Rattle.vc_base.specs.declared.Reply.{Reply}

@@ -34,12 +34,7 @@ pub fn put_busy(out: &mut Vec<u8>) -> Result<(), NoMemory>
 
 /// Appends the line of a finish, with the word that says how the job ended. Without memory nothing is
 /// appended.
-pub fn put_finish(
-    alloc: Global,
-    out: &mut Vec<u8>,
-    slot: u32,
-    word: &str,
-) -> Result<(), NoMemory>
+pub fn put_finish(alloc: Global, out: &mut Vec<u8>, slot: u32, word: &str) -> Result<(), NoMemory>
     ensures ok { OnOk result (out.new.items ≡ out.old.items ++ finish_text slot word.now) }
     ensures err { OnErr result (out.new.items ≡ out.old.items) }
 {
