@@ -1,5 +1,7 @@
 -- What the seats know goes on fitting the one history.
-use Rattle.std.proofs.Common.{◌≡◌, ◌≢◌, ◌⊎◌, ℕ, ◌+◌, ◌<◌, Bool, true, false, List, [], ◌∷◌, ◌++◌, length, set, refl, sym, ap, ◌∙◌, subst, inl, inr, ⊎_elim, arith}
+use Rattle.std.proofs.Common.{◌≡◌, ◌≢◌, ◌⊎◌, ℕ, ◌+◌, ◌<◌, Bool, true, false, List, [], ◌∷◌, ◌++◌, length, set, refl, sym, ap, ◌∙◌, subst, inl, inr, ⊎_elim, arith, ◌≤◌, length-set}
+use Rattle.std.proofs.lemmas.Bool.{cases_lt}
+use Rattle.std.proofs.lemmas.List.{length_push}
 use mathlib.Core.List.{IsPrefix}
 use mathlib.Core.Logic.{dite}
 use mathlib.Core.Option.{some-ne-none}
@@ -9,7 +11,7 @@ use Rattle.vc_base.specs.Device.{DeviceEvent}
 use Rattle.vc_turn.specs.declared.rule.Noted.{Noted}
 use Rattle.vc_turn.specs.declared.rule.Kept.{Kept}
 use Rattle.vc_turn.specs.declared.rule.View.{View}
-use Rattle.vc_turn.specs.Rule.{At, IsKeptOf, Fits, HasSeenAll, AreSeated, newcomer, left_over}
+use Rattle.vc_turn.specs.Rule.{At, IsKeptOf, Fits, HasSeenAll, HasListsOf, Somewhere, AreSeated, newcomer, left_over}
 use Rattle.vc_turn.specs.Plays.{entry, with_note, with_one_more, next_seat, kept_of, beside}
 use Rattle.vc_turn.proofs.Facts.{off, one_at, at_inside, at_more, each_set, each_more, apart_set, apart_more, prefix_more, prefix_is, places_own, places_other}
 
@@ -26,11 +28,32 @@ number v = v.number
 abbrev Gone : View → View → Type 0
 Gone v w = v.seated ≡ true → w.seated ≡ true → (at : ℕ) (k : Kept) → At v.kept at k → k.number ≢ w.number
 
+-- what holds of some view still does, where it passes from the one that changes to the one in its place
+some_set : (P : View → Type 0) (views : List View) (id : ℕ) (v w : View) → Somewhere P views → At views id v → (P v → P w) → Somewhere P (set views id w)
+some_set P views id v w s at pass = dite (ℕ_discrete s.0 id)
+    (λ same. let is : s.1 ≡ v = one_at views id s.1 v (subst (λ (k : ℕ). At views k s.1) same s.2) at in
+    (id, w, set_here views id w (at_inside views id v at), pass (subst P is s.3)))
+    (λ other. (s.0, s.1, set_else views id s.0 w other ∙ s.2, s.3))
+
+some_more : (P : View → Type 0) (views : List View) (new : View) → Somewhere P views → Somewhere P (views ++ new ∷ [])
+some_more P views new s = (s.0, s.1, at_longer views (new ∷ []) s.0 s.1 s.2, s.3)
+
+-- the same where one view takes over from another
+some_joined : (P : View → Type 0) (views : List View) (id : ℕ) (v : View) (other : ℕ) (w x rest : View) → Somewhere P views → At views id v → At views other w → other ≢ id → (P v → P x) → (P w → P x) → Somewhere P (set (set views id x) other rest)
+some_joined P views id v other w x rest s at there differs from_v from_w =
+    let here : At (set (set views id x) other rest) id x = set_else (set views id x) other id rest (λ e. differs (sym e)) ∙ set_here views id x (at_inside views id v at) in
+    dite (ℕ_discrete s.0 id)
+    (λ same. let is : s.1 ≡ v = one_at views id s.1 v (subst (λ (k : ℕ). At views k s.1) same s.2) at in (id, x, here, from_v (subst P is s.3)))
+    (λ not_id. dite (ℕ_discrete s.0 other)
+    (λ same. let is : s.1 ≡ w = one_at views other s.1 w (subst (λ (k : ℕ). At views k s.1) same s.2) there in (id, x, here, from_w (subst P is s.3)))
+    (λ not_other. (s.0, s.1, set_else (set views id x) other s.0 rest not_other ∙ (set_else views id s.0 x not_id ∙ s.2), s.3)))
+
 pub seats_turned : (made : ℕ) (log : List Noted) (views : List View) (id : ℕ) (v : View) (queued : Bool) (ticket : ℕ) (serving noted : Bool) (seen : List Noted) → AreSeated made log views → At views id v
     → (seen ≡ v.seen) ⊎ (seen ≡ log) → AreSeated made log (set views id (turned v queued ticket serving noted seen))
 seats_turned made log views id v queued ticket serving noted seen r at has =
     let w : View = turned v queued ticket serving noted seen in record {
       few = r.few;
+      many = length-set views id w ∙ r.many;
       numbers = apart_set seated number views id w r.numbers (λ h j u other a hu same. other (sym (r.numbers id j v u at a h hu same)));
       fits = each_set (λ _ u. u.seated ≡ true → Fits made log u) views id w (λ j u _ a. r.fits j u a)
           (λ h. let f = r.fits id v at h in record {
@@ -45,12 +68,10 @@ seats_turned made log views id v queued ticket serving noted seen r at has =
           (λ i' u _ a. each_set (λ _ z. Gone u z) views id w (λ j' z _ b. r.gone i' j' u z a b) (r.gone i' id u v a at) j y aj)
           (each_set (λ _ z. Gone w z) views id w (λ j' z _ b. r.gone id j' v z at b) (r.gone id id v v at at) j y aj)
           i x ai;
+      made_all = λ n lt. some_set (HasListsOf n) views id v w (r.made_all n lt) at (λ h. h);
       unmade = r.unmade;
-      longest = dite (ℕ_discrete r.longest.0 id)
-          (λ same. let is : r.longest.1 ≡ v = one_at views id r.longest.1 v (subst (λ (k : ℕ). At views k r.longest.1) same r.longest.2) at in
-          let all : HasSeenAll log v = subst (HasSeenAll log) is r.longest.3 in
-          (id, w, set_here views id w (at_inside views id v at), (all.0, ⊎_elim (λ (e : v.seen ≡ log). inl (⊎_elim (λ (o : seen ≡ v.seen). o ∙ e) (λ (o : seen ≡ log). o) has)) (λ k. inr k) all.1)))
-          (λ other. (r.longest.0, r.longest.1, set_else views id r.longest.0 w other ∙ r.longest.2, r.longest.3));
+      longest = some_set (HasSeenAll log) views id v w r.longest at
+          (λ (all : HasSeenAll log v). (all.0, ⊎_elim (λ (e : v.seen ≡ log). inl (⊎_elim (λ (o : seen ≡ v.seen). o ∙ e) (λ (o : seen ≡ log). o) has)) (λ k. inr k) all.1));
     }
 
 -- an entry of another seat leaves what fits
@@ -77,6 +98,7 @@ seats_noted made log views id v e r at here all =
     let x : Noted = entry v e in
     let fv = r.fits id v at here in record {
       few = r.few;
+      many = length-set views id w ∙ r.many;
       numbers = apart_set seated number views id w r.numbers (λ h j u other a hu same. other (sym (r.numbers id j v u at a h hu same)));
       fits = each_set (λ _ u. u.seated ≡ true → Fits made (log ++ x ∷ []) u) views id w
           (λ j u other a hu. fits_more made log x u (r.fits j u a hu) (λ same. other (sym (r.numbers id j v u at a here hu same))) (λ p k b same. r.gone j id u v a at hu here p k b (sym same)))
@@ -92,6 +114,7 @@ seats_noted made log views id v e r at here all =
           (λ i' u _ a. each_set (λ _ t. Gone u t) views id w (λ j' t _ b. r.gone i' j' u t a b) (r.gone i' id u v a at) j z aj)
           (each_set (λ _ t. Gone w t) views id w (λ j' t _ b. r.gone id j' v t at b) (r.gone id id v v at at) j z aj)
           i y ai;
+      made_all = λ n lt. some_set (HasListsOf n) views id v w (r.made_all n lt) at (λ h. h);
       unmade = λ n le. let lt = fv.number in places_other n log x (λ same. absurd (omega (arith, lt, le, same))) ∙ r.unmade n le;
       longest = (id, w, set_here views id w (at_inside views id v at), (here, inl (ap (λ (l : List Noted). l ++ x ∷ []) all)));
     }
@@ -108,6 +131,7 @@ seats_split made log views id v r at here zeroth room =
     let P : ℕ → View → Type 0 = λ _ u. u.seated ≡ true → u.number < made in
     let below : (j : ℕ) (u : View) → At (set views id w) j u → P j u = each_set P views id w (λ j u _ a h. let f = r.fits j u a h in f.number) (λ _. lt) in record {
       few = omega (arith, count, room);
+      many = length_push (set views id w) new ∙ ap (λ (n : ℕ). n + 1) (length-set views id w ∙ r.many);
       numbers = apart_more seated number (set views id w) new
           (apart_set seated number views id w r.numbers (λ h j u other a hu same. other (sym (r.numbers id j v u at a h hu same))))
           (λ j u a hu same. let b = below j u a hu in absurd (omega (arith, b, same, count)));
@@ -148,11 +172,12 @@ seats_split made log views id v r at here zeroth room =
           j z aj)
           (λ _ _ p k q. absurd (some-ne-none k (sym q)))
           i y ai;
+      made_all = λ n lt. ⊎_elim
+          (λ (below_made : n < made). some_more (HasListsOf n) (set views id w) new (some_set (HasListsOf n) views id v w (r.made_all n below_made) at (λ h. h)))
+          (λ (up : made ≤ n). (length (set views id w), new, at_last (set views id w) new (length (set views id w)) refl, (refl, inl (omega (arith, count, up, lt)))))
+          (cases_lt n made);
       unmade = λ n le. r.unmade n (omega arith);
-      longest = dite (ℕ_discrete r.longest.0 id)
-          (λ same. let is : r.longest.1 ≡ v = one_at views id r.longest.1 v (subst (λ (k : ℕ). At views k r.longest.1) same r.longest.2) at in
-          (id, w, at_longer (set views id w) (new ∷ []) id w (set_here views id w (at_inside views id v at)), subst (HasSeenAll log) is r.longest.3))
-          (λ other. (r.longest.0, r.longest.1, at_longer (set views id w) (new ∷ []) r.longest.0 r.longest.1 (set_else views id r.longest.0 w other ∙ r.longest.2), r.longest.3));
+      longest = some_more (HasSeenAll log) (set views id w) new (some_set (HasSeenAll log) views id v w r.longest at (λ h. h));
     }
 
 pub seats_joined : (made : ℕ) (log : List Noted) (views : List View) (id : ℕ) (v : View) (other : ℕ) (w : View) → AreSeated made log views → At views id v → other ≢ id → At views other w → v.seated ≡ true → w.seated ≡ true → v.number ≡ 0
@@ -163,9 +188,9 @@ seats_joined made log views id v other w r at differs there here too zeroth =
     let fw = r.fits other w there too in
     let not_zeroth : w.number ≢ 0 = λ z. differs (sym (r.numbers id other v w at there here too (zeroth ∙ sym z))) in
     let one : List View = set views id x in
-    let in_one : At one id x = set_here views id x (at_inside views id v at) in
-    let two : At (set one other left_over) id x = set_else one other id left_over (λ e. differs (sym e)) ∙ in_one in record {
+    record {
       few = r.few;
+      many = length-set one other left_over ∙ (length-set views id x ∙ r.many);
       numbers = apart_set seated number one other left_over
           (apart_set seated number views id x r.numbers (λ h j u apart a hu same. apart (sym (r.numbers id j v u at a h hu same))))
           (λ h. off false refl h);
@@ -191,22 +216,20 @@ seats_joined made log views id v other w r at differs there here too zeroth =
           i' u a apart_i)
           (λ _ h. off false refl h) j z aj)
           (λ h. off false refl h) i y ai;
+      made_all = λ n lt. some_joined (HasListsOf n) views id v other w x left_over (r.made_all n lt) at there differs
+          (λ (has : HasListsOf n v). (here, ⊎_elim (λ (e : v.number ≡ n). inl e) (λ (k : (p : ℕ) × (q : Kept) × At v.kept p q × (q.number ≡ n)). inr (k.0, k.1, at_longer v.kept (kept_of w ∷ []) k.0 k.1 k.2, k.3)) has.1))
+          (λ (has : HasListsOf n w). (here, ⊎_elim (λ (e : w.number ≡ n). inr (length v.kept, kept_of w, at_last v.kept (kept_of w) (length v.kept) refl, e)) (λ (k : (p : ℕ) × (q : Kept) × At w.kept p q × (q.number ≡ n)). absurd (not_zeroth (fw.kept k.0 k.1 k.2).0)) has.1));
       unmade = r.unmade;
-      longest = dite (ℕ_discrete r.longest.0 id)
-          (λ same. let is : r.longest.1 ≡ v = one_at views id r.longest.1 v (subst (λ (k : ℕ). At views k r.longest.1) same r.longest.2) at in
-          let all : HasSeenAll log v = subst (HasSeenAll log) is r.longest.3 in
-          (id, x, two, (here, ⊎_elim (λ (e : v.seen ≡ log). inl e) (λ (k : (p : ℕ) × (q : Kept) × At v.kept p q × (q.seen ≡ log)). inr (k.0, k.1, at_longer v.kept (kept_of w ∷ []) k.0 k.1 k.2, k.3)) all.1)))
-          (λ not_id. dite (ℕ_discrete r.longest.0 other)
-          (λ same. let is : r.longest.1 ≡ w = one_at views other r.longest.1 w (subst (λ (k : ℕ). At views k r.longest.1) same r.longest.2) there in
-          let all : HasSeenAll log w = subst (HasSeenAll log) is r.longest.3 in
-          (id, x, two, (here, ⊎_elim (λ (e : w.seen ≡ log). inr (length v.kept, kept_of w, at_last v.kept (kept_of w) (length v.kept) refl, e)) (λ (k : (p : ℕ) × (q : Kept) × At w.kept p q × (q.seen ≡ log)). absurd (not_zeroth (fw.kept k.0 k.1 k.2).0)) all.1)))
-          (λ not_other. (r.longest.0, r.longest.1, set_else one other r.longest.0 left_over not_other ∙ (set_else views id r.longest.0 x not_id ∙ r.longest.2), r.longest.3)));
+      longest = some_joined (HasSeenAll log) views id v other w x left_over r.longest at there differs
+          (λ (all : HasSeenAll log v). (here, ⊎_elim (λ (e : v.seen ≡ log). inl e) (λ (k : (p : ℕ) × (q : Kept) × At v.kept p q × (q.seen ≡ log)). inr (k.0, k.1, at_longer v.kept (kept_of w ∷ []) k.0 k.1 k.2, k.3)) all.1))
+          (λ (all : HasSeenAll log w). (here, ⊎_elim (λ (e : w.seen ≡ log). inr (length v.kept, kept_of w, at_last v.kept (kept_of w) (length v.kept) refl, e)) (λ (k : (p : ℕ) × (q : Kept) × At w.kept p q × (q.seen ≡ log)). absurd (not_zeroth (fw.kept k.0 k.1 k.2).0)) all.1));
     }
 
 -- the first seat
 pub seats_one : AreSeated 1 [] (newcomer 0 1 ∷ [])
 seats_one = record {
   few = omega arith;
+  many = refl;
   numbers = λ i j x y a b _ _ _. (at_only i x a).0 ∙ sym (at_only j y b).0;
   fits = λ i u a _. subst (Fits 1 []) (at_only i u a).1 record {
     number = omega arith;
@@ -216,6 +239,7 @@ seats_one = record {
     kept = λ p k q. absurd (some-ne-none k (sym q));
   };
   gone = λ i j u z a b _ _ p k q. absurd (some-ne-none k (sym (subst (λ (x : View). At x.kept p k) (sym (at_only i u a).1) q)));
+  made_all = λ n lt. (0, newcomer 0 1, refl, (refl, inl (omega arith)));
   unmade = λ _ _. refl;
   longest = (0, newcomer 0 1, refl, (refl, inl refl));
 }
