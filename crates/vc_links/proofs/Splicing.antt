@@ -1,10 +1,10 @@
 -- A whole ring goes to the end of another.
-use Rattle.std.proofs.Common.{ℕ, zero, suc, ◌+◌, ◌≡◌, ◌≢◌, ◌<◌, ◌≤◌, Some, None, List, [], ◌∷◌, ◌++◌, length, get_or, set, refl, sym, ap, ◌∙◌, subst, ⊎_elim, arith, get_or-set_same, get_or-set_other, length-set}
+use Rattle.std.proofs.Common.{ℕ, ◌+◌, ◌≡◌, ◌≢◌, ◌<◌, ◌≤◌, None, List, [], ◌∷◌, ◌++◌, length, get_or, set, refl, sym, ap, ◌∙◌, subst, ⊎_elim, arith, get_or-set_same, get_or-set_other, length-set}
 use Rattle.std.proofs.lemmas.Bool.{cases_eq}
 use Rattle.std.proofs.lemmas.List.{set-get_or, append-nil}
 use Rattle.vc_links.specs.Lists.{list_at, first}
 use Rattle.vc_links.specs.Rings.{Path, AreRings}
-use Rattle.vc_links.proofs.RingLemmas.{Misses, next_frame, prev_frame, next_free, prev_free, misses_head, last_next, first_prev, last_in, rings_set, head_cell, misses_other, first_none}
+use Rattle.vc_links.proofs.RingLemmas.{Misses, next_frame, prev_frame, next_free, prev_free, misses_head, last_next, first_prev, rings_set, head_cell, misses_other, first_none}
 
 -- a path ends at another node
 ends_at : (next prev : List ℕ) (u : ℕ) (xs : List ℕ) (v w : ℕ) → length next ≡ 36 → length prev ≡ 36 → 32 ≤ v → u < 36 → w < 36 → Misses w xs → Path next prev u xs v → Path (set next (get_or prev v 0) w) (set prev w (get_or prev v 0)) u xs w
