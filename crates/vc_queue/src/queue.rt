@@ -359,6 +359,14 @@ impl Queue {
         self.next_ordinal
     }
 
+    /// The number of buffers that went to done since the queue last stopped streaming, which is the
+    /// sequence number of the next one.
+    pub fn retired(&self) -> u64
+        ensures { result ≡ self.now.next_seq }
+    {
+        self.next_seq
+    }
+
     /// The ordinal of the front of ready.
     pub fn front_ordinal(&self) -> Option<u64>
         ensures { result ≡ front_ordinal self.now.ready }

@@ -37,7 +37,7 @@ fn a_buffer_is_lent_and_comes_back(rt: HostRuntime) -> Result<(), Fail> {
     let mut queue = Queue::new(Side::Out);
     assert_eq!(rt; queue.reqbufs(rt.alloc(), 1, 8, &mut hold), Ok(1));
     assert_eq!(rt; queue.streamon(8), Ok(()));
-    assert!(rt; queue.next_ordinal == 0);
+    assert!(rt; queue.queued() == 0);
     assert_eq!(rt; queue.qbuf(0, 5, Stamp(70), 8, &mut hold), Ok(()));
     assert!(rt; queue.ready_len() > 0 && !queue.is_lent());
     let lent = queue.lend();
@@ -45,7 +45,7 @@ fn a_buffer_is_lent_and_comes_back(rt: HostRuntime) -> Result<(), Fail> {
     queue.give_back(lent);
     assert!(rt; queue.ready_len() > 0 && !queue.is_lent());
     let lent = queue.lend();
-    assert!(rt; queue.next_seq == 0);
+    assert!(rt; queue.retired() == 0);
     queue.retire(lent, 5, 8, Stamp(70));
     assert_eq!(rt; queue.done_len(), 1);
     let taken = Reply::Taken {
