@@ -5,6 +5,15 @@ ghost use Rattle.vc_defs.specs.Quantiser.{AllBetween};
 
 use super::*;
 
+/// One of two numbers, in turn.
+fn in_turn(k: usize, even: i32, odd: i32) -> i32
+    requires even { (neg_ℤ (pos 255) ≤ℤ even) × (even ≤ℤ pos 255) }
+    requires odd { (neg_ℤ (pos 255) ≤ℤ odd) × (odd ≤ℤ pos 255) }
+    ensures { (neg_ℤ (pos 255) ≤ℤ result) × (result ≤ℤ pos 255) }
+{
+    if k % 2 == 0 { even } else { odd }
+}
+
 /// A block whose places have two numbers in turn.
 fn alternating(even: i32, odd: i32) -> [i32; 64]
     requires even { (neg_ℤ (pos 255) ≤ℤ even) × (even ≤ℤ pos 255) }
@@ -14,7 +23,7 @@ fn alternating(even: i32, odd: i32) -> [i32; 64]
 {
     let mut x = [0; 64];
     for k in 0..64 {
-        x[k] = if k % 2 == 0 { even } else { odd };
+        x[k] = in_turn(k, even, odd);
     }
     x
 }
