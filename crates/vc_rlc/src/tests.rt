@@ -66,7 +66,10 @@ fn values_have_their_words(rt: HostRuntime) -> Result<(), Fail> {
     for (zeros, count, value, words) in rows {
         assert!(rt; -2048 <= value && value <= 2047);
         let bytes = bytes_of(rt.alloc(), words)?;
-        assert!(rt; is_spelled(bytes.as_slice(), &block(zeros, count, value)), "{value} after {zeros} zeros");
+        assert!(rt;
+            is_spelled(bytes.as_slice(), &block(zeros, count, value)),
+            "{value} after {zeros} zeros"
+        );
     }
     Ok(())
 }
