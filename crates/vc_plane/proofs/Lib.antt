@@ -1,0 +1,4 @@
+pub mod Entries
+pub mod Ranges
+pub mod Shown
+pub mod Parsed
