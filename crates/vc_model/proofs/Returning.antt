@@ -18,7 +18,7 @@ use Rattle.vc_base.specs.Buffers.{Buffer, QueueState, buffer_count, is_empty, re
 use Rattle.vc_base.specs.Events.{EventState, raise_after, source_change_event}
 use Rattle.vc_model.specs.Formats.{FormatPair, formats_found}
 use Rattle.vc_model.specs.Coder.{Coder, encoder, decoder, reset}
-use Rattle.vc_defs.specs.Decoder.{DecodedResult, picture, damaged, changed, spent}
+use Rattle.vc_defs.specs.Decoder.{DecodedResult, picture, damaged, changed, spent, step_outcome}
 use Rattle.vc_defs.specs.Encoder.{RunRates}
 use Rattle.vc_model.specs.Context.{Context, Slot, Running, RunSort, copy, encode, decode, probe, Cause, drain, change, PhaseState, run, owe, last, stopped, fresh_context, queue_of, with_queue, is_dec, is_enc, is_drained, sizeimage, raise_end, settle, settle_drain, settle_last, give_last}
 use Rattle.vc_model.specs.Answer.{Answer, unchanged, refused, answered, unless, if_found, unless_or_block, desc_answer, set_answer, set_refusal, after_new_format, reqbufs_answer, after_new_buffers, create_answer, query_answer, qbuf_answer, is_part_of_picture, taken_answer, after_taking, stop_at_last, is_ended, streamon_answer, streamoff_effect, without_drain_stop, after_output_off, mark_after_restart, after_capture_off, both_stream, is_stopped_by_drain, stop_answer, start_is_early, start_answer, command_answer, value_answer, control_answer, context_answer, closed_answer, answer}
@@ -506,7 +506,7 @@ run_away c j (encoded frame) =
     and_then c x _ (same_queues c x refl refl) (done_away x j 0 (length frame.bytes) frame.bytes (type_flag frame.key) j.source.stamp)
 run_away c j (decoded step) =
     let x = record c { codec = decoder step.state } in
-    and_then c x _ (same_queues c x refl refl) (decoded_away x j (j.source.cursor + step.moved) step.outcome)
+    and_then c x _ (same_queues c x refl refl) (decoded_away x j (j.source.cursor + step.moved) (step_outcome j.format.fourcc step))
 
 fault_away : (c : Context) (j : JobData) → NotMore c (fault_effect c j)
 fault_away c j =

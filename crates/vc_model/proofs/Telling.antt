@@ -18,7 +18,7 @@ use Rattle.vc_base.specs.Buffers.{Buffer, QueueState, buffer_count, is_empty, re
 use Rattle.vc_base.specs.Events.{EventState, source_change_event}
 use Rattle.vc_model.specs.Formats.{FormatPair, formats_found}
 use Rattle.vc_model.specs.Coder.{Coder, encoder, decoder, reset}
-use Rattle.vc_defs.specs.Decoder.{DecodedResult, picture, damaged, changed, spent}
+use Rattle.vc_defs.specs.Decoder.{DecodedResult, picture, damaged, changed, spent, step_outcome}
 use Rattle.vc_defs.specs.Encoder.{RunRates}
 use Rattle.vc_model.specs.Context.{Context, Slot, Running, RunSort, Cause, drain, change, PhaseState, run, owe, last, stopped, queue_of, with_queue, is_dec, is_enc, is_drained, sizeimage, raise_end, settle, settle_owed, settle_last, give_last}
 use Rattle.vc_model.specs.Answer.{Answer, unchanged, refused, answered, unless, if_found, unless_or_block, desc_answer, set_answer, set_refusal, after_new_format, reqbufs_answer, after_new_buffers, create_answer, query_answer, qbuf_answer, is_part_of_picture, taken_answer, after_taking, stop_at_last, is_ended, streamon_answer, streamoff_answer, streamoff_effect, without_drain_stop, after_output_off, mark_after_restart, after_capture_off, both_stream, is_stopped_by_drain, stop_answer, start_is_early, start_answer, command_answer, value_answer, control_answer, context_answer, answer}
@@ -378,7 +378,7 @@ run_told c x j (copied bytes) e p r = dest_told c (source_done x j 0) j.dest tru
 run_told c x j (encoded frame) e p r =
     dest_told c (source_done (record x { codec = encoder frame.state }) j 0) j.dest true (length frame.bytes) frame.bytes (type_flag frame.key) j.source.stamp e p
 run_told c x j (decoded step) e p r =
-    decoded_told c (record x { codec = decoder step.state }) j (j.source.cursor + step.moved) step.outcome e p r
+    decoded_told c (record x { codec = decoder step.state }) j (j.source.cursor + step.moved) (step_outcome j.format.fourcc step) e p r
 
 finish_told : (coder : Coder) (c : Context) (r : Running) (fault : Bool) → is_run c.phase ≡ true → Told c (after_finish coder c r fault)
 unfolding after_finish

@@ -18,7 +18,7 @@ use Rattle.vc_base.specs.Events.{EventState}
 use Rattle.vc_defs.specs.declared.Geometry.{Geometry}
 use Rattle.vc_model.specs.Formats.{FormatPair}
 use Rattle.vc_model.specs.Coder.{Coder, CodecState, encoder, decoder, reset}
-use Rattle.vc_defs.specs.Decoder.{DecodedResult, picture, damaged, changed, spent}
+use Rattle.vc_defs.specs.Decoder.{DecodedResult, picture, damaged, changed, spent, step_outcome}
 use Rattle.vc_defs.specs.Encoder.{RunRates}
 use Rattle.vc_model.specs.Context.{Context, Slot, Running, RunSort, copy, encode, decode, probe, Cause, drain, change, PhaseState, run, owe, last, stopped, queue_of, with_queue, is_dec, is_enc, is_drained, sizeimage, raise_end, settle, settle_drain, settle_last, give_last}
 use Rattle.vc_model.specs.Answer.{Answer, unchanged, refused, answered, unless, if_found, unless_or_block, desc_answer, set_answer, set_refusal, after_new_format, reqbufs_answer, after_new_buffers, create_answer, query_answer, qbuf_answer, is_part_of_picture, taken_answer, after_taking, stop_at_last, is_ended, streamon_answer, streamoff_answer, streamoff_effect, without_drain_stop, after_output_off, mark_after_restart, after_capture_off, both_stream, is_stopped_by_drain, stop_answer, start_is_early, start_answer, command_answer, value_answer, control_answer, context_answer, closed_answer, answer}
@@ -600,7 +600,7 @@ run_whole c j (encoded frame) s w =
     let x = record c { codec = encoder frame.state } in
     dest_whole (source_done x j 0) j.dest true frame.bytes (type_flag frame.key) j.source.stamp (done_whole x j 0 s (inl refl) (with_codec c (encoder frame.state) w))
 run_whole c j (decoded step) s w =
-    decoded_whole (record c { codec = decoder step.state }) j (j.source.cursor + step.moved) step.outcome s (with_codec c (decoder step.state) w)
+    decoded_whole (record c { codec = decoder step.state }) j (j.source.cursor + step.moved) (step_outcome j.format.fourcc step) s (with_codec c (decoder step.state) w)
 
 fault_whole : (c : Context) (j : JobData) → IsSource c j → IsWhole c → IsWhole (fault_effect c j)
 fault_whole c j s w =
