@@ -1,4 +1,4 @@
-pub mod Entries
+pub mod EntrySteps
 pub mod Ranges
 pub mod Shown
 pub mod Parsed

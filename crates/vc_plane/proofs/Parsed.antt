@@ -7,6 +7,7 @@ use Rattle.std.proofs.lemmas.List.{append-nil, length-replicate}
 use Rattle.vc_defs.specs.Planes.{Block, block_count, blocks_from, blocks_behind, decoded_plane}
 use Rattle.vc_defs.specs.Bodies.{decoded_from, plane_from}
 use Rattle.vc_plane.specs.Entries.{block_with, IsEntryRead, IsNoEntry}
+use Rattle.vc_plane.proofs.Shown.{AreDecoded}
 
 -- blocks in front of blocks
 pub behind_twice : (a b : List Block) (o : Option (List Block × List ℕ)) → blocks_behind a (blocks_behind b o) ≡ blocks_behind (a ++ b) o
@@ -55,11 +56,11 @@ more_parsed bytes at frame count next end blocks inter repeats last end' values 
 -- Where no entry stands, no plane does.
 pub not_parsed : (bytes : List ℕ) (at : ℕ) (frame : Bool) (count next end : ℕ) (blocks : List Block) → next < count → AreParsed bytes at frame count next end blocks → IsNoEntry bytes end frame (count - next) →
     blocks_from count frame count (drop at bytes) ≡ None
-not_parsed bytes at frame count next end blocks lt p no = by_turns p.turns p.enough p.parsed
+not_parsed bytes at frame count next end blocks lt p none = by_turns p.turns p.enough p.parsed
   where
     by_turns : (turns : ℕ) → count - next ≤ turns → blocks_from count frame count (drop at bytes) ≡ blocks_behind blocks (blocks_from turns frame (count - next) (drop end bytes)) → blocks_from count frame count (drop at bytes) ≡ None
     by_turns zero enough parsed = absurd (omega arith)
-    by_turns (suc turns) enough parsed = parsed ∙ ap (λ o. blocks_behind blocks o) (no turns)
+    by_turns (suc turns) enough parsed = parsed ∙ ap (λ o. blocks_behind blocks o) (none turns)
 
 none_left : (turns : ℕ) (frame : Bool) (rest : List ℕ) → blocks_from turns frame 0 rest ≡ Some ([], rest)
 none_left zero frame rest = refl
@@ -78,3 +79,9 @@ plane_of_blocks bytes at end frame old new width height blocks e is = ap (λ o. 
 
 pub no_plane : (bytes : List ℕ) (at : ℕ) (frame : Bool) (old : List ℕ) (width height : ℕ) → blocks_from (block_count width height) frame (block_count width height) (drop at bytes) ≡ None → plane_from false frame old width height (drop at bytes) ≡ None
 no_plane bytes at frame old width height e = ap (λ o. decoded_from old width height o) e
+
+-- The entries that were read so far show their blocks in the reference.
+pub record AreRead (bytes : List ℕ) (at : ℕ) (frame : Bool) (count next end : ℕ) (old now : List ℕ) (width height : ℕ) : Type 0 where
+  pub blocks : List Block
+  pub parsed : AreParsed bytes at frame count next end blocks
+  pub decoded : AreDecoded blocks old now width height next

@@ -1,9 +1,9 @@
 -- How large what a transform gives can be.
 use Rattle.std.proofs.Common.{◌≡◌, ◌∙◌, ap, inl, inr, ℕ, ◌*◌, ◌+◌, ◌/◌, ◌%◌, ◌<◌, List, length, get_or, arith}
-use Rattle.std.specs.Prelude.{ℤ, pos, neg_ℤ, ◌≤ℤ◌, ◌*ℤ◌}
+use Rattle.std.specs.Prelude.{ℤ, pos, neg_ℤ, ◌≤ℤ◌, ◌*ℤ◌, ◌^◌, Bool}
 use Rattle.std.proofs.lemmas.Int.{ints}
 use Rattle.vc_defs.specs.Walsh.{sum_below, walsh, entry_at, coefficient, transformed}
-use Rattle.vc_defs.specs.Quantiser.{AllBetween}
+use Rattle.vc_defs.specs.Quantiser.{AllBetween, dequantised, shift_at}
 use Rattle.vc_defs.proofs.Tables.{entry_of_table, length_of_table}
 use Rattle.vc_fwht.proofs.Stages.{Within}
 use Rattle.vc_fwht.proofs.Sums.{signed_within, sum_within, IsSign}
@@ -29,3 +29,7 @@ restored_in_range y d is long h k hk =
     let inside : k < 64 = omega (arith, ap length is, length_of_table (λ k. coefficient d (k / 8) (k % 8)) 64) in
     rw (is, entry_of_table (λ k. coefficient d (k / 8) (k % 8)) 64 k inside)
     (coefficient_within 2097152 d (k / 8) (k % 8) (omega arith) (omega arith) (λ j hj. h j (omega arith)))
+
+pub length-dequantised : (d q : List ℤ) (intra : Bool) → d ≡ dequantised q intra → length d ≡ 64
+unfolding dequantised
+length-dequantised d q intra is = ap length is ∙ length_of_table (λ k. get_or q k (pos 0) *ℤ pos (2 ^ shift_at intra k)) 64

@@ -1,6 +1,7 @@
 -- Blocks that are shown one after the other, each over the reference's block of its number.
 use Rattle.std.proofs.Common.{◌≡◌, ◌≢◌, ◌∙◌, sym, ap, refl, ℕ, ◌+◌, ◌*◌, ◌-◌, ◌/◌, ◌%◌, ◌<◌, ◌≤◌, inl, inr, List, [], ◌++◌, length, get_or, map, replicate, arith}
-use Rattle.std.specs.Prelude.{ℤ, ◌⊎◌, Bool, false, not, min}
+use Rattle.std.specs.Prelude.{ℤ, ◌⊎◌, Bool, true, false, not, min, nat_le}
+use Rattle.std.proofs.lemmas.Bool.Decides.{nat_tests}
 use Rattle.std.specs.List.{range_with_len}
 use Rattle.std.proofs.lemmas.Nat.{mod-mul-add, div-mul-add, div-add-mod'}
 use Rattle.std.proofs.Math.Nat.{mod-lt, div-lt_iff_lt-mul}
@@ -94,7 +95,11 @@ more_decoded blocks old now new width height next more last y values inter w h i
     }
   where
     cases_le : (a b : ℕ) → (a ≤ b) ⊎ (b < a)
-    cases_le a b = omega arith
+    cases_le a b = by_test (nat_le a b) refl
+      where
+        by_test : (t : Bool) → nat_le a b ≡ t → (a ≤ b) ⊎ (b < a)
+        by_test true e = inl (grind (arith, nat_tests))
+        by_test false e = inr (grind (arith, nat_tests))
 
     by_place : (j : ℕ) → j < width * height → block_number width j < last → (next ≤ block_number width j) ⊎ (block_number width j < next) →
         get_or new j 0 ≡ get_or (samples_of (get_or (blocks ++ replicate more (block_with inter values)) (block_number width j) (block_with false [])) (block_of old width height (block_number width j))) (place_in_block width j) 0

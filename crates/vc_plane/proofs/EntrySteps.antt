@@ -43,12 +43,12 @@ after_no_head frame left w (Some v) read h =
     cond-false (is_head frame left w) (blocks_behind (replicate (repeats_of w + 1) (block_with (inter_of w) (from_scan_order v.0))) (read (left - (repeats_of w + 1)) v.1)) None h
 
 pub no_head : (frame : Bool) (left : ℕ) (bytes : List ℕ) (at w : ℕ) → 0 < left → at + 2 ≤ length bytes → w ≡ word_of (get_or bytes at 0) (get_or bytes (at + 1) 0) → is_head frame left w ≡ false → IsNoEntry bytes at frame left
-no_head frame left bytes at w some h is no turns =
-    from_word turns frame left bytes at w some h is ∙ after_no_head frame left w (values_from 64 (drop (at + 2) bytes)) (λ n rest. blocks_from turns frame n rest) no
+no_head frame left bytes at w some h is none turns =
+    from_word turns frame left bytes at w some h is ∙ after_no_head frame left w (values_from 64 (drop (at + 2) bytes)) (λ n rest. blocks_from turns frame n rest) none
 
 pub no_values : (frame : Bool) (left : ℕ) (bytes : List ℕ) (at w : ℕ) → 0 < left → at + 2 ≤ length bytes → w ≡ word_of (get_or bytes at 0) (get_or bytes (at + 1) 0) → values_from 64 (drop (at + 2) bytes) ≡ None → IsNoEntry bytes at frame left
-no_values frame left bytes at w some h is no turns =
-    from_word turns frame left bytes at w some h is ∙ ap (λ o. after_head frame left w o (λ n rest. blocks_from turns frame n rest)) no
+no_values frame left bytes at w some h is none turns =
+    from_word turns frame left bytes at w some h is ∙ ap (λ o. after_head frame left w o (λ n rest. blocks_from turns frame n rest)) none
 
 -- too few bytes for a word
 no_word : (turns : ℕ) (frame : Bool) (left : ℕ) (bytes : List ℕ) → 0 < left → length bytes < 2 → blocks_from (suc turns) frame left bytes ≡ None
@@ -71,10 +71,10 @@ front_between bytes rest start values f =
 
 -- Where no block stands, no values are read.
 pub none_between : (bytes : List ℕ) (start : ℕ) → AreBytes bytes → ((end : ℕ) (values : List ℤ) → BlockBetween bytes start end 64 values → ⊥) → values_from 64 (drop start bytes) ≡ None
-none_between bytes start ok no = by_read (values_from 64 (drop start bytes)) refl
+none_between bytes start ok none = by_read (values_from 64 (drop start bytes)) refl
   where
     by_read : (o : Option (List ℤ × List ℕ)) → values_from 64 (drop start bytes) ≡ o → o ≡ None
     by_read None e = refl
     by_read (Some r) e =
         let f : IsFront 64 (drop start bytes) r.1 r.0 = front_of 64 (drop start bytes) r.1 r.0 (all_dropped start bytes ok) e in
-        absurd (no (start + 2 * length f.0) r.0 (front_between bytes r.1 start r.0 f))
+        absurd (none (start + 2 * length f.0) r.0 (front_between bytes r.1 start r.0 f))
