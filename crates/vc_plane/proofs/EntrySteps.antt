@@ -1,18 +1,21 @@
 -- Reading an entry is one step of reading the blocks of a plane.
-use Rattle.std.proofs.Common.{◌≡◌, ◌∙◌, sym, ap, refl, ℕ, suc, zero, ◌+◌, ◌*◌, ◌-◌, ◌<◌, ◌≤◌, List, [], ◌∷◌, ◌++◌, length, take, drop, get_or, replicate, arith, length-drop}
-use Rattle.std.specs.Prelude.{ℤ, Bool, true, false}
+use Rattle.std.proofs.Common.{◌≡◌, ◌∙◌, sym, ap, refl, ℕ, suc, zero, ◌+◌, ◌*◌, ◌-◌, ◌<◌, ◌≤◌, List, [], ◌∷◌, ◌++◌, length, take, drop, get_or, replicate, arith, length-drop, subst}
+use Rattle.std.specs.Prelude.{ℤ, Bool, true, false, ◌&&◌, ◌||◌, not, nat_eq, nat_lt}
+use mir.Val.{Fits}
+use mir.Syntax.{w8}
 use Rattle.std.specs.List.{All}
 use Rattle.std.specs.declared.option.Option.{Option}
 use Rattle.std.specs.declared.option.Option.TheVariants.{Some, None}
-use Rattle.std.proofs.lemmas.Bool.{cond-true, cond-false}
+use Rattle.std.proofs.lemmas.Bool.{cond-true, cond-false, and_parts}
+use Rattle.std.proofs.lemmas.Bool.Decides.{nat_tests}
 use Rattle.std.proofs.lemmas.List.{drop_more, take_at}
-use Rattle.std.proofs.lemmas.List.Elements.{All-tail}
+use Rattle.std.proofs.lemmas.List.Elements.{All-tail, All-from_get_or}
 use Rattle.vc_defs.specs.Words.{Words, words_bytes, word_of, values_from, BlockBetween, in_scan_order, from_scan_order}
-use Rattle.vc_defs.specs.Planes.{Block, inter_of, repeats_of, is_head, blocks_behind, after_head, blocks_from}
+use Rattle.vc_defs.specs.Planes.{Block, head_of, inter_of, repeats_of, is_head, blocks_behind, after_head, blocks_from}
 use Rattle.vc_defs.specs.Laws.{AreBytes}
 use Rattle.vc_defs.proofs.Scan.{from_in_scan_order}
 use Rattle.vc_defs.proofs.Parsing.{IsFront, front_of, length-words_bytes}
-use Rattle.vc_plane.specs.Entries.{block_with, IsNoEntry}
+use Rattle.vc_plane.specs.Entries.{block_with, IsEntryRead, IsNoEntry}
 
 -- two bytes in front of the others
 two_in_front : (bytes : List ℕ) (at : ℕ) → at + 2 ≤ length bytes → drop at bytes ≡ get_or bytes at 0 ∷ get_or bytes (at + 1) 0 ∷ drop (at + 2) bytes
@@ -78,3 +81,20 @@ none_between bytes start ok none = by_read (values_from 64 (drop start bytes)) r
     by_read (Some r) e =
         let f : IsFront 64 (drop start bytes) r.1 r.0 = front_of 64 (drop start bytes) r.1 r.0 (all_dropped start bytes ok) e in
         absurd (none (start + 2 * length f.0) r.0 (front_between bytes r.1 start r.0 f))
+
+pub are_bytes : (bytes : List ℕ) → ((i : ℕ) → Fits w8 (get_or bytes i 0)) → AreBytes bytes
+are_bytes bytes h = All-from_get_or (λ b. b < 256) bytes 0 (λ i hi. let f : Fits w8 (get_or bytes i 0) = h i in f.fits)
+
+-- A head has fewer further blocks than are left.
+pub head_fits : (frame : Bool) (left w : ℕ) → is_head frame left w ≡ true → repeats_of w < left
+head_fits frame left w e =
+    let both = and_parts (nat_eq w (head_of (inter_of w) (repeats_of w)) && nat_lt (repeats_of w) left) (frame || not (inter_of w)) e in
+    let two = and_parts (nat_eq w (head_of (inter_of w) (repeats_of w))) (nat_lt (repeats_of w) left) both.0 in
+    let less : nat_lt (repeats_of w) left ≡ true = two.1 in
+    grind (arith, nat_tests)
+
+-- An entry that its head's parts name.
+pub entry_is : (bytes : List ℕ) (at : ℕ) (frame : Bool) (left w : ℕ) (inter : Bool) (repeats : ℕ) (q : List ℤ) (end : ℕ) → inter ≡ inter_of w → repeats ≡ repeats_of w → IsEntryRead bytes at frame left (inter_of w) (repeats_of w) q end →
+    IsEntryRead bytes at frame left inter repeats q end
+entry_is bytes at frame left w inter repeats q end i r e =
+    subst (λ (x : Bool). IsEntryRead bytes at frame left x repeats q end) (sym i) (subst (λ (n : ℕ). IsEntryRead bytes at frame left (inter_of w) n q end) (sym r) e)
