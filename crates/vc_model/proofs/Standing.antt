@@ -186,7 +186,7 @@ finish_idle coder c r false =
 
 -- Slots and workers of the core
 
-core_slot_at : (slots : List Slot) (k : ℕ) → get_or (map core_slot slots) k None ≡ core_slot (get_or slots k None)
+pub core_slot_at : (slots : List Slot) (k : ℕ) → get_or (map core_slot slots) k None ≡ core_slot (get_or slots k None)
 core_slot_at [] k = refl
 core_slot_at (s ∷ slots) zero = refl
 core_slot_at (s ∷ slots) (suc k) = core_slot_at slots k

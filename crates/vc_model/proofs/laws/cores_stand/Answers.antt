@@ -1,3 +1,4 @@
+use Rattle.vc_model.proofs.Blocking.{blocked_changes_nothing}
 use Rattle.vc_model.proofs.Standing.{new_core_stands, calls_stand, claims_stand, finishes_stand, shut_stands}
 use Rattle.vc_model.proofs.laws.cores_stand.Goals as goal
 
@@ -15,3 +16,6 @@ returns-clause-finishes c = finishes_stand
 
 pub returns-clause-shut : goal.returns-clause-shut
 returns-clause-shut c = shut_stands
+
+pub returns-clause-blocked : goal.returns-clause-blocked
+returns-clause-blocked c = blocked_changes_nothing
