@@ -8,14 +8,14 @@ use Rattle.vc_base.specs.Device.{DeviceEvent}
 use Rattle.vc_model.specs.Coder.{Coder}
 use Rattle.vc_model.specs.Context.{Context, Slot, Running, is_run, is_drained, sizeimage}
 use Rattle.vc_model.specs.Devices.{DeviceState, new_device, slot_of, device_after, projection}
-use Rattle.vc_model.specs.Sound.{count_index, OnceEach, CountsUp, IsSoundQueue, HasItsBuffers, dest_count, AreLong, IsSound, IsSoundSlot, drain_not_noted}
+use Rattle.vc_model.specs.Sound.{count_index, OnceEach, CountsUp, IsSoundQueue, HasItsBuffers, dest_count, AreLong, IsOrdered, IsOrderedSlot, drain_not_noted}
 use Rattle.vc_model.specs.Standing.{CoreState, some_job, without_data, without_data_of, without_job, core_slot, core_of, Stands}
 use Rattle.vc_model.specs.CoreSound.{HasJobs, IsSoundInCore, IsSoundCoreSlot, CoresAreSound}
 use Rattle.vc_model.proofs.Queues.{count_parts}
 use Rattle.vc_model.proofs.Isolating.{isolated}
 use Rattle.vc_model.proofs.Hiding.{same_length}
 use Rattle.vc_model.proofs.Standing.{core_slot_at}
-use Rattle.vc_model.proofs.Ending.{always_sound, at_most_one}
+use Rattle.vc_model.proofs.Ending.{always_ordered, at_most_one}
 
 count_without : (bs : List Buffer) (i : ℕ) → count_index (map without_bytes bs) i ≡ count_index bs i
 count_without [] i = refl
@@ -47,7 +47,7 @@ none_jobs : (c : Context) (o : Option Running) → o ≡ None → HasItsBuffers 
 none_jobs c None e h = (h.0, h.1)
 none_jobs c (Some r) e h = absurd (cc)
 
-idle_in_core : (c : Context) → c.running ≡ None → IsSound c → IsSoundInCore c
+idle_in_core : (c : Context) → c.running ≡ None → IsOrdered c → IsSoundInCore c
 idle_in_core c e s =
     record {
       out_side = s.firm.out_side;
@@ -65,7 +65,7 @@ idle_in_core c e s =
       settled = s.settled;
     }
 
-busy_in_core : (c : Context) (r : Running) → c.running ≡ Some r → IsSound c → IsSoundInCore (without_data c)
+busy_in_core : (c : Context) (r : Running) → c.running ≡ Some r → IsOrdered c → IsSoundInCore (without_data c)
 busy_in_core c r e s =
     let h = subst (HasItsBuffers c) e s.firm.has_buffers in
     record {
@@ -89,16 +89,16 @@ busy_in_core c r e s =
     busy_noted true false = refl
     busy_noted false b = refl
 
-in_core : (c : Context) (o : Option Running) → c.running ≡ o → IsSound c → IsSoundInCore (without_data_of c o)
+in_core : (c : Context) (o : Option Running) → c.running ≡ o → IsOrdered c → IsSoundInCore (without_data_of c o)
 in_core c None e s = idle_in_core c e s
 in_core c (Some r) e s = busy_in_core c r e s
 
-slot_in_core : (s : Slot) → IsSoundSlot s → IsSoundCoreSlot (core_slot s)
+slot_in_core : (s : Slot) → IsOrderedSlot s → IsSoundCoreSlot (core_slot s)
 slot_in_core None h = tt
 slot_in_core (Some c) h = in_core c c.running refl h
 
 pub cores_are_sound : CoresAreSound
 cores_are_sound coder n w core history k is =
     let d = device_after coder (new_device n) history in
-    let s = subst IsSoundSlot (sym (isolated coder n k history).slot) (always_sound coder (projection coder (new_device n) history k)) in
+    let s = subst IsOrderedSlot (sym (isolated coder n k history).slot) (always_ordered coder (projection coder (new_device n) history k)) in
     subst (λ x. IsSoundCoreSlot (slot_of x k)) (sym is.state) (subst IsSoundCoreSlot (sym (core_slot_at d.slots k)) (slot_in_core (slot_of d k) s))
