@@ -1,5 +1,6 @@
 -- No call changes which job runs.
 use Rattle.std.proofs.Common.{ℕ, ◌≡◌, ◌==◌, nat_lt, Bool, true, false, not, cond, ◌&&◌, is_none, is_some, Option, Some, None, List, [], ◌∷◌, refl, sym, ap, ◌∙◌, subst}
+use Rattle.vc_model.proofs.Answering.{none_is}
 use Rattle.vc_base.specs.declared.Stamp.{Stamp}
 use Rattle.vc_base.specs.declared.Side.{Side}
 use Rattle.vc_base.specs.declared.Side.TheVariants.{Out, Cap}
@@ -21,7 +22,7 @@ use Rattle.vc_model.specs.Answer.{Answer, unchanged, refused, answered, unless, 
 
 -- the slot is closed, or its context has this job
 unfoldable pub Lasts : Option Running → Slot → Type 0
-Lasts o None = Unit {0}
+Lasts o None = o ≡ None
 Lasts o (Some c) = c.running ≡ o
 
 -- Settling
@@ -169,15 +170,15 @@ command_lasts : (c : Context) (cmd : ℕ) → Lasts c.running (command_answer c 
 command_lasts c cmd =
     either_lasts c (cmd == 0) (start_answer c) (cond (cmd == 1) (stop_answer c) (refused c Inval)) (either_lasts c (not (both_stream c)) _ _ (same_lasts c) (either_lasts c (start_is_early c.phase c.mark) _ _ (same_lasts c) (either_lasts c (not (long_enough c.cap (sizeimage c Cap))) _ _ (same_lasts c) (settled_lasts c (record c { phase = run }) refl)))) (either_lasts c (cmd == 1) (stop_answer c) (refused c Inval) (either_lasts c (not (both_stream c)) _ _ (same_lasts c) (either_lasts c (is_some c.mark) _ _ (same_lasts c) (either_lasts c (is_stopped_by_drain c.phase) _ _ (same_lasts c) (settled_lasts c (record c { mark = Some c.out.next_ordinal }) refl)))) (same_lasts c))
 
-close_lasts : (c : Context) (b : Bool) → Lasts c.running (cond b (record { slot = None; reply = Done; bytes = [] }) (unchanged c Blocked)).slot
+close_lasts : (c : Context) (b : Bool) → is_none c.running ≡ b → Lasts c.running (cond b (record { slot = None; reply = Done; bytes = [] }) (unchanged c Blocked)).slot
 unfolding Lasts
-close_lasts c true = tt
-close_lasts c false = refl
+close_lasts c true e = none_is c.running e
+close_lasts c false e = refl
 
 row_lasts : (c : Context) (request : Call) (bytes : List ℕ) (found : Bool) → Lasts c.running (context_answer c request bytes found).slot
 unfolding context_answer
 row_lasts c (Open kind) bytes found = same_lasts c
-row_lasts c Close bytes found = close_lasts c (is_none c.running)
+row_lasts c Close bytes found = close_lasts c (is_none c.running) refl
 row_lasts c (EnumFmt side index) bytes found = desc_lasts c _
 row_lasts c (GetFmt side) bytes found = same_lasts c
 row_lasts c (TryFmt side want) bytes found = same_lasts c
