@@ -1,5 +1,5 @@
 -- Printed lines have no line feed but at their end, and numbers have digits alone.
-use Rattle.std.proofs.Common.{◌≡◌, ℕ, zero, suc, ◌+◌, ◌/◌, ◌%◌, ◌<◌, ◌≤◌, ◌^◌, Bool, true, false, ◌&&◌, ◌==◌, nat_lt, nat_le, cond, List, [], ◌∷◌, ◌++◌, length, get_or, take, codes, decimal, refl, sym, ◌∙◌, ap, arith, append_assoc}
+use Rattle.std.proofs.Common.{◌≡◌, ℕ, zero, suc, ◌+◌, ◌/◌, ◌%◌, ◌<◌, ◌≤◌, ◌^◌, Bool, true, false, ◌&&◌, ◌==◌, nat_lt, nat_le, cond, List, [], ◌∷◌, ◌++◌, length, get_or, take, drop, codes, decimal, refl, sym, ◌∙◌, ap, arith, append_assoc}
 use Rattle.std.specs.List.{list_all}
 use Rattle.std.specs.Fmt.{digit_glyph, digits_onto, digits}
 use Rattle.std.proofs.lemmas.Bool.{ne_eqb, leb-true}
@@ -214,3 +214,43 @@ claim_is_line slot = (codes "claim", refl, refl)
 
 pub finish_is_line : (slot : ℕ) (word : List ℕ) → list_all stays_on_line word ≡ true → IsLineOf slot (finish_text slot word)
 finish_is_line slot word e = (codes "finish " ++ word, refl, e)
+
+-- Want of memory
+
+same_front : (xs ys zs : List ℕ) → xs ++ ys ≡ xs ++ zs → ys ≡ zs
+same_front [] ys zs e = e
+same_front (x ∷ xs) ys zs e = same_front xs ys zs (ap (drop 1) e)
+
+want_of_errno : (errno : Errno) → spaced (errno_name errno ∷ []) ++ 10 ∷ [] ≡ codes " ENOMEM\n" → replies.Refused errno ≡ replies.Refused errnos.NoMem
+want_of_errno errnos.NoEnt e = let d : ◌≡◌ {A = ℕ} 69 77 = ap (λ z. get_or z 4 0) e in absurd (omega (arith, d))
+want_of_errno errnos.Again e = let d : ◌≡◌ {A = ℕ} 65 78 = ap (λ z. get_or z 2 0) e in absurd (omega (arith, d))
+want_of_errno errnos.NoMem e = refl
+want_of_errno errnos.Busy e = let d : ◌≡◌ {A = ℕ} 66 78 = ap (λ z. get_or z 2 0) e in absurd (omega (arith, d))
+want_of_errno errnos.Inval e = let d : ◌≡◌ {A = ℕ} 73 78 = ap (λ z. get_or z 2 0) e in absurd (omega (arith, d))
+want_of_errno errnos.NoTty e = let d : ◌≡◌ {A = ℕ} 84 77 = ap (λ z. get_or z 4 0) e in absurd (omega (arith, d))
+want_of_errno errnos.Pipe e = let d : ◌≡◌ {A = ℕ} 80 78 = ap (λ z. get_or z 2 0) e in absurd (omega (arith, d))
+
+want_of_words : (call : Call) (reply : Reply) (payload : List ℕ) → spaced (answer_words call reply payload) ++ 10 ∷ [] ≡ codes " ENOMEM\n" → reply ≡ replies.Refused errnos.NoMem
+want_of_words call replies.Done payload e = let d : ◌≡◌ {A = ℕ} 111 69 = ap (λ z. get_or z 1 0) e in absurd (omega (arith, d))
+want_of_words call (replies.Desc fourcc) payload e = let d : ◌≡◌ {A = ℕ} 111 69 = ap (λ z. get_or z 1 0) e in absurd (omega (arith, d))
+want_of_words call (replies.Fmt f) payload e = let d : ◌≡◌ {A = ℕ} 111 69 = ap (λ z. get_or z 1 0) e in absurd (omega (arith, d))
+want_of_words call (replies.Count count) payload e = let d : ◌≡◌ {A = ℕ} 111 69 = ap (λ z. get_or z 1 0) e in absurd (omega (arith, d))
+want_of_words call (replies.Created index count) payload e = let d : ◌≡◌ {A = ℕ} 111 69 = ap (λ z. get_or z 1 0) e in absurd (omega (arith, d))
+want_of_words call (replies.Info index size flags) payload e = let d : ◌≡◌ {A = ℕ} 111 69 = ap (λ z. get_or z 1 0) e in absurd (omega (arith, d))
+want_of_words call (replies.Taken index used flags seq stamp) payload e = let d : ◌≡◌ {A = ℕ} 111 69 = ap (λ z. get_or z 1 0) e in absurd (omega (arith, d))
+want_of_words call (replies.Happened event seq changes pending) payload e = let d : ◌≡◌ {A = ℕ} 111 69 = ap (λ z. get_or z 1 0) e in absurd (omega (arith, d))
+want_of_words call (replies.Value value) payload e = let d : ◌≡◌ {A = ℕ} 111 69 = ap (λ z. get_or z 1 0) e in absurd (omega (arith, d))
+want_of_words call (replies.Ready read write urgent) payload e = let d : ◌≡◌ {A = ℕ} 111 69 = ap (λ z. get_or z 1 0) e in absurd (omega (arith, d))
+want_of_words call (replies.Refused errno) payload e = want_of_errno errno e
+want_of_words call replies.Blocked payload e = let d : ◌≡◌ {A = ℕ} 98 69 = ap (λ z. get_or z 1 0) e in absurd (omega (arith, d))
+
+-- behind the slot and the verb
+answer_behind : (slot : ℕ) (verb more : List ℕ) → ((decimal slot ++ (32 ∷ (verb ++ more))) ++ 10 ∷ []) ≡ (decimal slot ++ (32 ∷ verb)) ++ (more ++ 10 ∷ [])
+answer_behind slot verb more =
+    ap (λ z. z ++ 10 ∷ []) (sym (append_assoc (decimal slot) (32 ∷ verb) more)) ∙ append_assoc (decimal slot ++ (32 ∷ verb)) more (10 ∷ [])
+
+pub want_told : (slot : ℕ) (call : Call) (reply : Reply) (payload other : List ℕ) → reply_text slot call reply payload ≡ reply_text slot call (replies.Refused errnos.NoMem) other → reply ≡ replies.Refused errnos.NoMem
+unfolding reply_text
+want_told slot call reply payload other e =
+    let verb = verb_name (call_verb call) in
+    want_of_words call reply payload (same_front (decimal slot ++ (32 ∷ verb)) (spaced (answer_words call reply payload) ++ 10 ∷ []) (codes " ENOMEM\n") (sym (answer_behind slot verb (spaced (answer_words call reply payload))) ∙ e ∙ answer_behind slot verb (codes " ENOMEM")))

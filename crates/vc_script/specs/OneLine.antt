@@ -2,7 +2,9 @@
 use Rattle.std.specs.Prelude.{ℕ, ◌≡◌, ◌<◌, ◌^◌, ◌&&◌, ◌==◌, Bool, true, not, List, [], ◌∷◌, ◌++◌, decimal}
 use Rattle.std.specs.List.{list_all}
 use Rattle.vc_base.specs.declared.Call.{Call}
+use Rattle.vc_base.specs.declared.Errno.TheVariants.{NoMem}
 use Rattle.vc_base.specs.declared.Reply.{Reply}
+use Rattle.vc_base.specs.declared.Reply.TheVariants.{Refused}
 use Rattle.vc_script.specs.Texts.{reply_text, claim_text, finish_text}
 
 -- no line feed
@@ -40,3 +42,7 @@ NumbersAreWords = (slot : ℕ) → decimal slot ≡ [] → ⊥
 -- different slots have different numbers
 abbrev pub NumbersDiffer : Type 0
 NumbersDiffer = (slot other : ℕ) → slot < 2 ^ 64 → other < 2 ^ 64 → decimal slot ≡ decimal other → slot ≡ other
+
+-- want of memory is told by a line of its own
+abbrev pub WantIsTold : Type 0
+WantIsTold = (slot : ℕ) (call : Call) (reply : Reply) (payload other : List ℕ) → reply_text slot call reply payload ≡ reply_text slot call (Refused NoMem) other → reply ≡ Refused NoMem

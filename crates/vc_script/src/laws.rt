@@ -1,7 +1,7 @@
 //! Laws of the printed lines, proved from the definitions alone: a text of printed lines can be cut into
 //! lines again, and each line of a slot is known by its number.
 
-ghost use Rattle.vc_script.specs.OneLine.{RepliesAreLines, ClaimsAreLines, FinishesAreLines, NumbersAreDigits, NumbersAreWords, NumbersDiffer};
+ghost use Rattle.vc_script.specs.OneLine.{RepliesAreLines, ClaimsAreLines, FinishesAreLines, NumbersAreDigits, NumbersAreWords, NumbersDiffer, WantIsTold};
 
 /// The answer to a call, whatever it is, is one line that begins with the slot's number and a space.
 pub fn replies_are_lines()
@@ -31,4 +31,9 @@ pub fn numbers_are_words()
 /// Different slots have different numbers.
 pub fn numbers_differ()
     ensures { NumbersDiffer }
+{}
+
+/// A call's line says ENOMEM only where the reply does.
+pub fn want_is_told()
+    ensures { WantIsTold }
 {}
