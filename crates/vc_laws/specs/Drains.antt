@@ -4,7 +4,9 @@ use Rattle.std.specs.List.{filter, flat_map}
 use Rattle.vc_base.specs.declared.Side.TheVariants.{Cap}
 use Rattle.vc_base.specs.declared.Kind.TheVariants.{Dec}
 use Rattle.vc_base.specs.declared.Errno.TheVariants.{Pipe}
+use Rattle.vc_base.specs.declared.Call.{Call}
 use Rattle.vc_base.specs.declared.Call.TheVariants.{DqBuf, DecCmd, EncCmd}
+use Rattle.vc_base.specs.declared.Reply.{Reply}
 use Rattle.vc_base.specs.declared.Reply.TheVariants.{Done, Refused}
 use Rattle.vc_base.specs.Buffers.{Buffer, last_flag, zero_stamp}
 use Rattle.vc_defs.specs.Decoder.{FrameResult}
@@ -38,9 +40,18 @@ abbrev pub aborts_drain : Slot → SoloEvent → SoloReply → Slot → Bool
 aborts_drain before e told after =
     is_some (mark_of before) && (is_none (mark_of after) && not (is_last_in before && takes_capture e told))
 
+abbrev pub is_stop_call : Call → Bool
+is_stop_call (DecCmd cmd) = cmd == 1
+is_stop_call (EncCmd cmd) = cmd == 1
+is_stop_call request = false
+
+abbrev pub is_done : Reply → Bool
+is_done Done = true
+is_done reply = false
+
+-- a STOP that is accepted
 abbrev pub is_stop : SoloEvent → SoloReply → Bool
-is_stop (Called (DecCmd cmd) bytes found) (Answered Done handed) = cmd == 1
-is_stop (Called (EncCmd cmd) bytes found) (Answered Done handed) = cmd == 1
+is_stop (Called request bytes found) (Answered reply handed) = is_stop_call request && is_done reply
 is_stop e told = false
 
 -- A drain begins at a STOP alone, and its mark is the number of OUTPUT buffers queued before it.
