@@ -71,28 +71,28 @@ settle_is x = settle_split x (is_put_off x) refl
 -- Effects
 
 -- codec state and geometry after a new format of OUTPUT, after new buffers of it, and after a StreamOff
-pub CodecAfterFormat : Kind → CodecState → CodecState → Option Geometry → Option Geometry → Type 0
+abbrev pub CodecAfterFormat : Kind → CodecState → CodecState → Option Geometry → Option Geometry → Type 0
 CodecAfterFormat Copy old new g h = (new ≡ old) × (h ≡ g)
 CodecAfterFormat Enc old new g h = (new ≡ reset old) × (h ≡ g)
 CodecAfterFormat Dec old new g h = (new ≡ old) × (h ≡ None)
 
-pub CodecAfterBuffers : Kind → CodecState → CodecState → Option Geometry → Option Geometry → Type 0
+abbrev pub CodecAfterBuffers : Kind → CodecState → CodecState → Option Geometry → Option Geometry → Type 0
 CodecAfterBuffers Copy old new g h = (new ≡ old) × (h ≡ g)
 CodecAfterBuffers Enc old new g h = (new ≡ reset old) × (h ≡ g)
 CodecAfterBuffers Dec old new g h = (new ≡ reset old) × (h ≡ None)
 
-pub CodecAfterOutput : Kind → CodecState → CodecState → Type 0
+abbrev pub CodecAfterOutput : Kind → CodecState → CodecState → Type 0
 CodecAfterOutput Copy old new = new ≡ old
 CodecAfterOutput Enc old new = new ≡ old
 CodecAfterOutput Dec old new = new ≡ reset old
 
-pub CodecAfterCapture : Kind → CodecState → CodecState → Type 0
+abbrev pub CodecAfterCapture : Kind → CodecState → CodecState → Type 0
 CodecAfterCapture Copy old new = new ≡ old
 CodecAfterCapture Enc old new = new ≡ reset old
 CodecAfterCapture Dec old new = new ≡ old
 
 -- the mark after the LAST buffer was taken
-pub MarkAfterLast : Cause → Option ℕ → Option ℕ → Type 0
+abbrev pub MarkAfterLast : Cause → Option ℕ → Option ℕ → Type 0
 MarkAfterLast drain old new = new ≡ None
 MarkAfterLast change old new = new ≡ old
 
@@ -216,7 +216,6 @@ desc_of c side index bytes None = refuses c (EnumFmt side index) bytes Inval
 desc_of c side index bytes (Some f) = stays (record { no_reset = refl; no_take = refl })
 
 set_out_of : (c : Context) (kind : Kind) (want reply : Format) (bytes : List ℕ) → c.kind ≡ kind → buffer_count c.out ≤ 0 → buffer_count c.cap ≤ 0 → IsSettled c → Of c (SetFmt Out want) bytes (answered (after_new_format kind Out (record c { formats = formats_for c.kind Out c.formats want })) (Fmt reply))
-unfolding CodecAfterFormat
 set_out_of c Copy want reply bytes k o q s =
     settled_of c (record c { formats = formats_for c.kind Out c.formats want }) (SetFmt Out want) bytes (Fmt reply) (record { noted = s.noted; given = s.given }) (has_out_format c.codec c.geometry o q (subst (λ d. CodecAfterFormat d c.codec c.codec c.geometry c.geometry) (sym k) (refl, refl)))
 set_out_of c Enc want reply bytes k o q s =
@@ -263,7 +262,6 @@ resting_out c x s o p m k =
     }
 
 new_out_of : (c : Context) (kind : Kind) (count size reply : ℕ) (bytes : List ℕ) → c.kind ≡ kind → c.out.streams ≡ false → IsSound c → Of c (ReqBufs Out count) bytes (answered (after_new_buffers kind Out (record c { out = reqbufs_after c.out count size })) (Count reply))
-unfolding CodecAfterBuffers
 new_out_of c Copy count size reply bytes k o s =
     let x = record c { out = reqbufs_after c.out count size } in
     settled_of c x (ReqBufs Out count) bytes (Count reply) (resting_out c x s o refl refl refl) (has_out_buffers size c.codec c.geometry o (subst (λ d. CodecAfterBuffers d c.codec c.codec c.geometry c.geometry) (sym k) (refl, refl)))
@@ -385,7 +383,6 @@ last_cap_of c block bytes b cause mark d p m =
     settled_of c (record c { cap = take_front c.cap (b ∷ []); phase = stopped cause; mark = mark }) (DqBuf Cap block) bytes (taken b) (record { noted = refl; given = refl }) (takes_last b cause mark d p m)
 
 take_cap_of : (c : Context) (block : Bool) (bytes : List ℕ) (b : Buffer) (rest : List Buffer) (phase : PhaseState) → c.phase ≡ phase → c.cap.done ≡ b ∷ rest → is_stopped c.phase ≡ false → IsSettled c → Effect c (DqBuf Cap block) bytes (taken b) (Some (settle (stop_at_last (record c { cap = take_front c.cap (b ∷ rest) }) phase (is_empty rest))))
-unfolding MarkAfterLast
 take_cap_of c block bytes b [] run p d n s = kept_cap_of c block bytes b [] d n (λ e. ap is_last p) s
 take_cap_of c block bytes b [] (owe cause) p d n s = kept_cap_of c block bytes b [] d n (λ e. ap is_last p) s
 take_cap_of c block bytes b [] (last drain) p d n s = last_cap_of c block bytes b drain None d p refl
@@ -440,7 +437,6 @@ off_settled c codec s =
     record { noted = no_stream (is_run (without_drain_stop c.phase)) c.cap.streams (is_none c.running) false refl; given = off_held_back c.phase c.cap.ready s.given }
 
 off_out_of : (c : Context) (kind : Kind) (bytes : List ℕ) → c.kind ≡ kind → c.running ≡ None → IsSettled c → Of c (StreamOff Out) bytes (answered (after_output_off kind (record c { out = streamoff_after c.out; mark = None; phase = without_drain_stop c.phase })) Done)
-unfolding CodecAfterOutput
 off_out_of c Copy bytes k n s =
     settled_of c _ (StreamOff Out) bytes Done (off_settled c c.codec s) (stops_out c.codec n (subst (λ d. CodecAfterOutput d c.codec c.codec) (sym k) refl))
 off_out_of c Enc bytes k n s =
@@ -449,7 +445,6 @@ off_out_of c Dec bytes k n s =
     settled_of c _ (StreamOff Out) bytes Done (off_settled c (reset c.codec) s) (stops_out (reset c.codec) n (subst (λ d. CodecAfterOutput d c.codec (reset c.codec)) (sym k) refl))
 
 off_cap_of : (c : Context) (kind : Kind) (bytes : List ℕ) → c.kind ≡ kind → c.running ≡ None → c.cap.streams ≡ true → Of c (StreamOff Cap) bytes (answered (after_capture_off kind (record c { cap = streamoff_after c.cap; mark = mark_after_restart c.phase c.mark; phase = run })) Done)
-unfolding CodecAfterCapture
 off_cap_of c Copy bytes k n t =
     settled_of c _ (StreamOff Cap) bytes Done (resting_cap (record c { cap = streamoff_after c.cap; mark = mark_after_restart c.phase c.mark; phase = run }) refl refl) (stops_cap c.codec n t (subst (λ d. CodecAfterCapture d c.codec c.codec) (sym k) refl))
 off_cap_of c Enc bytes k n t =

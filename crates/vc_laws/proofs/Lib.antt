@@ -1,1 +1,4 @@
 pub mod Effects
+pub mod Marks
+pub mod Steps
+pub mod Tidy

@@ -1,5 +1,5 @@
 -- Drains: from the STOP that sets the mark to the LAST buffer that is dequeued; and changes of the resolution.
-use Rattle.std.specs.Prelude.{ℕ, ◌≡◌, ◌⊎◌, ◌+◌, ◌<◌, ◌==◌, Bool, true, false, not, ◌&&◌, ◌||◌, if◌then◌else◌, nat_lt, bit_and, is_none, is_some, Option, Some, None, List, [], ◌∷◌, ◌++◌, map}
+use Rattle.std.specs.Prelude.{ℕ, ◌≡◌, ◌⊎◌, ◌+◌, ◌<◌, ◌==◌, Bool, true, false, not, ◌&&◌, ◌||◌, if◌then◌else◌, nat_lt, bit_and, codes, is_none, is_some, Option, Some, None, List, [], ◌∷◌, ◌++◌, map}
 use Rattle.std.specs.List.{filter, flat_map}
 use Rattle.vc_base.specs.declared.Side.TheVariants.{Cap}
 use Rattle.vc_base.specs.declared.Kind.TheVariants.{Dec}
@@ -16,7 +16,7 @@ use Rattle.vc_model.specs.Answer.{answer}
 use Rattle.vc_model.specs.Places.{AreHonest}
 use Rattle.vc_model.specs.Sound.{CountsUp, is_last, stops_by_change}
 use Rattle.vc_model.specs.Soundness.{AtEveryMoment}
-use Rattle.vc_model.specs.Solo.{SoloEvent, Called, SoloReply, Answered, solo_step, solo_run, solo_slot}
+use Rattle.vc_model.specs.Solo.{SoloEvent, Called, Finishes, SoloReply, Answered, Finished, solo_step, solo_run, solo_slot}
 use Rattle.vc_model.specs.Drains.{AtEveryStep, is_last_by_drain, gives_last, takes_capture, done_now}
 use Rattle.vc_laws.specs.Segments.{Segment, segment_of, whats}
 use Rattle.vc_laws.specs.Following.{results_of, is_no_change, in_buffers, by_runs, OneForOne}
@@ -149,14 +149,34 @@ DrainsGiveAll =
 
 -- Changes of the resolution
 
--- While a decoder stops by a change no CAPTURE buffer goes to done but one empty LAST buffer, which ends what is owed.
-abbrev pub IsLastOfChange : Context → Context → Type 0
-IsLastOfChange before after =
-    (b : Buffer) × (done_now before after ≡ b ∷ []) × (b.flags ≡ last_flag) × (gives_change before after ≡ true)
+abbrev pub is_owed : PhaseState → Bool
+is_owed run = false
+is_owed (owe cause) = true
+is_owed (last cause) = false
+is_owed (stopped cause) = false
 
+-- the one buffer that goes to done in a stop by a change: the empty LAST buffer that is owed; or, where START resumes the
+-- runs, that of a drain that has no source left
+pub record IsOneLast (before after : Context) : Type 0 where
+  pub buffer : Buffer
+  pub alone : done_now before after ≡ buffer ∷ []
+  pub empty : (buffer.flags ≡ last_flag) × (buffer.used ≡ 0) × (buffer.bytes ≡ [])
+  pub cause : ((is_owed before.phase ≡ true) × (gives_change before after ≡ true)) ⊎ ((is_stopped before.phase ≡ true) × (gives_last before after ≡ true))
+
+-- While a decoder stops by a change no CAPTURE buffer goes to done but one empty LAST buffer, before the phase is Run again.
 abbrev pub StopsByChange : Type 0
 StopsByChange =
-    AtEveryStep (λ before e told after. stops_by_change before.phase ≡ true → is_run after.phase ≡ false → (stops_by_change after.phase ≡ true) × ((done_now before after ≡ []) ⊎ IsLastOfChange before after))
+    AtEveryStep (λ before e told after. stops_by_change before.phase ≡ true → is_run after.phase ≡ false → (done_now before after ≡ []) ⊎ IsOneLast before after)
+
+-- the empty LAST buffer of a change, or none yet
+pub record IsFirstOfStop (before after : Context) : Type 0 where
+  pub stops : stops_by_change after.phase ≡ true
+  pub done : (done_now before after ≡ []) ⊎ ((b : Buffer) × (done_now before after ≡ b ∷ []) × (b.flags ≡ last_flag) × (gives_change before after ≡ true))
+
+-- A run that finds a change, while CAPTURE streams, begins such a stop, and puts nothing on done but its LAST buffer.
+abbrev pub ChangesStop : Type 0
+ChangesStop =
+    AtEveryStep (λ before e told after. e ≡ Finishes false → told ≡ Finished (codes "changed") → before.cap.streams ≡ true → IsFirstOfStop before after)
 
 -- Where the LAST buffer of a change is given, it alone goes to done, and the results that go to the client in buffers are
 -- all in the CAPTURE buffers that went to done before it.
