@@ -1,3 +1,4 @@
+pub mod DoneNow
 pub mod Effects
 pub mod Marks
 pub mod Steps
