@@ -200,7 +200,7 @@ effect_told c t (stops_out codec n k) = kept_told c _ refl (by_off c.phase) t
 effect_told c t (stops_cap codec n o k) = none_told c _ refl refl
 effect_told c t (rests_cap n o) = none_told c _ refl (by_same c.phase)
 effect_told c t (sets_mark y n i b m d s) = then_told c _ y refl refl refl t s
-effect_told c t (starts y n b e s) =
+effect_told c t (starts y n i b e s) =
     settled_told c (record c { phase = run }) y [] (made_same c (record c { phase = run }) refl t) refl (omega arith) (λ x. start_no_last c.phase c.mark e) refl s
 
 -- the flags that a run gives: without LAST, and with it
@@ -404,7 +404,7 @@ effect_nothing c o f t (stops_out codec n k) = run_nothing c _ (over_off c.phase
 effect_nothing c o f t (stops_cap codec n a k) = run_nothing c _ refl
 effect_nothing c o f t (rests_cap n a) = off_nothing c _ (f.firm.stopping (over_stops c.phase o)) a
 effect_nothing c o f t (sets_mark y n i b m d s) = over_nothing c _ y refl refl o t s
-effect_nothing c o f t (starts y n b e s) = started_nothing c y (t.unmarked (unmarked_start c.phase c.mark o e)) s
+effect_nothing c o f t (starts y n i b e s) = started_nothing c y (t.unmarked (unmarked_start c.phase c.mark o e)) s
 
 step_nothing : (coder : Coder) (c : Context) {e : SoloEvent} {told : SoloReply} {slot : Slot} → is_over c.phase ≡ true → IsSound c → IsTidy c → Step coder c e told slot → NothingSlot c slot
 step_nothing coder c o f t (calls e) = effect_nothing c o f t e
@@ -536,7 +536,7 @@ effect_change c o t (stops_out codec n k) = no_done c _ refl t
 effect_change c o t (stops_cap codec n a k) = none_done c _ refl
 effect_change c o t (rests_cap n a) = none_done c _ refl
 effect_change c o t (sets_mark y n i b m d s) = change_settled c _ y refl refl refl o t s
-effect_change c o t (starts y n b e s) = change_started c y (start_stopped c.phase c.mark o e) t s
+effect_change c o t (starts y n i b e s) = change_started c y (start_stopped c.phase c.mark o e) t s
 
 step_change : (coder : Coder) (c : Context) {e : SoloEvent} {told : SoloReply} {slot : Slot} → stops_by_change c.phase ≡ true → IsTidy c → Step coder c e told slot → ChangeSlot c slot
 step_change coder c o t (calls e) = effect_change c o t e

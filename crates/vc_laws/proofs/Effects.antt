@@ -101,6 +101,12 @@ pub record IsPlain (c : Context) (request : Call) (reply : Reply) : Type 0 where
   pub no_reset : call_resets c request reply ≡ false
   pub no_take : takes_a_buffer request reply ≡ false
 
+-- STOP or START
+abbrev pub is_command : Call → Bool
+is_command (DecCmd cmd) = true
+is_command (EncCmd cmd) = true
+is_command request = false
+
 pub data Effect (c : Context) : Call → List ℕ → Reply → Slot → Type 0 where
   stays : {request : Call} {bytes : List ℕ} {reply : Reply} → IsPlain c request reply → Effect c request bytes reply (Some c)
   closes : {bytes : List ℕ} → c.running ≡ None → Effect c Close bytes Done None
@@ -123,7 +129,7 @@ pub data Effect (c : Context) : Call → List ℕ → Reply → Slot → Type 0 
   stops_cap : {bytes : List ℕ} (codec : CodecState) → c.running ≡ None → c.cap.streams ≡ true → CodecAfterCapture c.kind c.codec codec → Effect c (StreamOff Cap) bytes Done (Some (record c { cap = streamoff_after c.cap; mark = mark_after_restart c.phase c.mark; phase = run; codec = codec }))
   rests_cap : {bytes : List ℕ} → c.running ≡ None → c.cap.streams ≡ false → Effect c (StreamOff Cap) bytes Done (Some (record c { cap = streamoff_after c.cap }))
   sets_mark : {request : Call} {bytes : List ℕ} (y : Context) → IsPlain c request Done → is_stop_call request ≡ true → both_stream c ≡ true → c.mark ≡ None → is_stopped_by_drain c.phase ≡ false → Settles (record c { mark = Some c.out.next_ordinal }) y → Effect c request bytes Done (Some y)
-  starts : {request : Call} {bytes : List ℕ} (y : Context) → IsPlain c request Done → both_stream c ≡ true → start_is_early c.phase c.mark ≡ false → Settles (record c { phase = run }) y → Effect c request bytes Done (Some y)
+  starts : {request : Call} {bytes : List ℕ} (y : Context) → IsPlain c request Done → is_command request ≡ true → both_stream c ≡ true → start_is_early c.phase c.mark ≡ false → Settles (record c { phase = run }) y → Effect c request bytes Done (Some y)
 
 -- Refusals
 
@@ -471,16 +477,16 @@ stop_of c request bytes n t =
     let x = record c { mark = Some c.out.next_ordinal } in
     either c request bytes (not (both_stream c)) (unchanged c Done) _ (λ e. stays n) (λ (b : not (both_stream c) ≡ false). either c request bytes (is_some c.mark) (refused c Busy) _ (λ e. refuses c request bytes Busy) (λ (m : is_some c.mark ≡ false). either c request bytes (is_stopped_by_drain c.phase) (unchanged c Done) (answered x Done) (λ e. stays n) (λ (d : is_stopped_by_drain c.phase ≡ false). sets_mark _ n t (not_false (both_stream c) b) (no_mark c.mark m) d (settle_is x))))
 
-start_of : (c : Context) (request : Call) (bytes : List ℕ) → IsPlain c request Done → Of c request bytes (start_answer c)
+start_of : (c : Context) (request : Call) (bytes : List ℕ) → IsPlain c request Done → is_command request ≡ true → Of c request bytes (start_answer c)
 unfolding Of
-start_of c request bytes n =
+start_of c request bytes n i =
     let x = record c { phase = run } in
-    either c request bytes (not (both_stream c)) (unchanged c Done) _ (λ e. stays n) (λ (b : not (both_stream c) ≡ false). either c request bytes (start_is_early c.phase c.mark) (refused c Busy) _ (λ e. refuses c request bytes Busy) (λ (t : start_is_early c.phase c.mark ≡ false). either c request bytes (not (long_enough c.cap (sizeimage c Cap))) (refused c Inval) (answered x Done) (λ e. refuses c request bytes Inval) (λ e. starts _ n (not_false (both_stream c) b) t (settle_is x))))
+    either c request bytes (not (both_stream c)) (unchanged c Done) _ (λ e. stays n) (λ (b : not (both_stream c) ≡ false). either c request bytes (start_is_early c.phase c.mark) (refused c Busy) _ (λ e. refuses c request bytes Busy) (λ (t : start_is_early c.phase c.mark ≡ false). either c request bytes (not (long_enough c.cap (sizeimage c Cap))) (refused c Inval) (answered x Done) (λ e. refuses c request bytes Inval) (λ e. starts _ n i (not_false (both_stream c) b) t (settle_is x))))
 
-command_of : (c : Context) (request : Call) (cmd : ℕ) (bytes : List ℕ) → IsPlain c request Done → ((cmd == 1) ≡ true → is_stop_call request ≡ true) → Of c request bytes (command_answer c cmd)
+command_of : (c : Context) (request : Call) (cmd : ℕ) (bytes : List ℕ) → IsPlain c request Done → is_command request ≡ true → ((cmd == 1) ≡ true → is_stop_call request ≡ true) → Of c request bytes (command_answer c cmd)
 unfolding Of
-command_of c request cmd bytes n t =
-    either c request bytes (cmd == 0) (start_answer c) _ (λ e. start_of c request bytes n) (λ e. either c request bytes (cmd == 1) (stop_answer c) (refused c Inval) (λ (one : (cmd == 1) ≡ true). stop_of c request bytes n (t one)) (λ e. refuses c request bytes Inval))
+command_of c request cmd bytes n i t =
+    either c request bytes (cmd == 0) (start_answer c) _ (λ e. start_of c request bytes n i) (λ e. either c request bytes (cmd == 1) (stop_answer c) (refused c Inval) (λ (one : (cmd == 1) ≡ true). stop_of c request bytes n (t one)) (λ e. refuses c request bytes Inval))
 
 -- Events and controls
 
@@ -541,9 +547,9 @@ all_effects c (Unsubscribe event) bytes found s =
     event_of c (Unsubscribe event) bytes (event_refusal c.kind event) (unsubscribe_after c.events event) (record { no_reset = refl; no_take = refl }) s.settled
 all_effects c (DqEvent block) bytes found s = oldest_of c block bytes _ s.settled
 all_effects c (DecCmd cmd) bytes found s =
-    either c (DecCmd cmd) bytes (is_dec c.kind) (command_answer c cmd) (refused c NoTty) (λ e. command_of c (DecCmd cmd) cmd bytes (record { no_reset = refl; no_take = refl }) (λ one. one)) (λ e. plain c (DecCmd cmd) bytes (Refused NoTty) (record { no_reset = refl; no_take = refl }))
+    either c (DecCmd cmd) bytes (is_dec c.kind) (command_answer c cmd) (refused c NoTty) (λ e. command_of c (DecCmd cmd) cmd bytes (record { no_reset = refl; no_take = refl }) refl (λ one. one)) (λ e. plain c (DecCmd cmd) bytes (Refused NoTty) (record { no_reset = refl; no_take = refl }))
 all_effects c (EncCmd cmd) bytes found s =
-    either c (EncCmd cmd) bytes (is_enc c.kind) (command_answer c cmd) (refused c NoTty) (λ e. command_of c (EncCmd cmd) cmd bytes (record { no_reset = refl; no_take = refl }) (λ one. one)) (λ e. plain c (EncCmd cmd) bytes (Refused NoTty) (record { no_reset = refl; no_take = refl }))
+    either c (EncCmd cmd) bytes (is_enc c.kind) (command_answer c cmd) (refused c NoTty) (λ e. command_of c (EncCmd cmd) cmd bytes (record { no_reset = refl; no_take = refl }) refl (λ one. one)) (λ e. plain c (EncCmd cmd) bytes (Refused NoTty) (record { no_reset = refl; no_take = refl }))
 all_effects c (GetCtrl id) bytes found s = value_of c id bytes _
 all_effects c (SetCtrl id value) bytes found s = control_of c id value bytes _ s.settled
 all_effects c Poll bytes found s = plain c Poll bytes _ (record { no_reset = refl; no_take = refl })

@@ -1,5 +1,7 @@
 pub mod DoneNow
 pub mod Effects
 pub mod Marks
+pub mod Segmenting
 pub mod Steps
 pub mod Tidy
+pub mod Wholes

@@ -75,7 +75,7 @@ effect_mark c {request = request} {bytes = bytes} {reply = reply} found handed (
 effect_mark c found handed (rests_cap n o) = inl refl
 effect_mark c {request = request} found handed (sets_mark y n t b m d s) =
     inr (inr (m, settled_mark _ y s, and_both (is_stop_call request) true t refl))
-effect_mark c found handed (starts y n b t s) = inl (settled_mark _ y s)
+effect_mark c found handed (starts y n i b t s) = inl (settled_mark _ y s)
 
 step_mark : (coder : Coder) (c : Context) {e : SoloEvent} {told : SoloReply} {slot : Slot} → Step coder c e told slot → MarkAfter c e told slot
 unfolding MarkAfter

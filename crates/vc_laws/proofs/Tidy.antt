@@ -207,7 +207,7 @@ effect_tidy c s t (rests_cap n o) =
     record { below = refl; unmarked = t.unmarked; run = gone_run _ c.running n }
 effect_tidy c s t (sets_mark y n i b m d u) =
     settled_tidy _ y u (record { below = t.below; unmarked = λ e. absurd (false≢true (sym d ∙ e)); run = marked_run c _ c.running refl refl refl refl refl s.firm.has_buffers s.firm t.run })
-effect_tidy c s t (starts y n b e u) =
+effect_tidy c s t (starts y n i b e u) =
     settled_tidy _ y u (record { below = t.below; unmarked = λ (e : false ≡ true). absurd (false≢true e); run = kept_run c _ c.running refl refl refl refl refl t.run })
 
 -- Claims and finishes
@@ -261,6 +261,58 @@ step_tidy coder c s t (claims b rest k r n o j p d q) = claimed_cap c b rest k d
 step_tidy coder c s t (finishes r x y job ends u w) = settled_tidy x y u (ended_tidy c _ job.source x job.runs ends t)
 step_tidy coder c s t (faults r x y job ends u) = settled_tidy x y u (ended_tidy c _ job.source x job.runs ends t)
 
+-- the kind stays
+unfoldable pub KindSlot : Context → Slot → Type 0
+KindSlot c None = Unit {0}
+KindSlot c (Some y) = y.kind ≡ c.kind
+
+settled_kind : (c x y : Context) → x.kind ≡ c.kind → Settles x y → KindSlot c (Some y)
+unfolding KindSlot
+settled_kind c x y k still = k
+settled_kind c x y k (owes p r) = k
+settled_kind c x y k (gives cause b rest events r p) = k
+
+effect_kind : (c : Context) {request : Call} {bytes : List ℕ} {reply : Reply} {slot : Slot} → Effect c request bytes reply slot → KindSlot c slot
+unfolding KindSlot
+effect_kind c (stays n) = refl
+effect_kind c (closes n) = tt
+effect_kind c (has_events events n) = refl
+effect_kind c (has_rates rates) = refl
+effect_kind c (has_out_format codec geometry o q k) = refl
+effect_kind c (has_cap_format q) = refl
+effect_kind c (has_out_buffers size codec geometry o k) = refl
+effect_kind c (has_cap_buffers size o) = refl
+effect_kind c adds_out = refl
+effect_kind c adds_cap = refl
+effect_kind c (queues_out b e) = refl
+effect_kind c (queues_cap b y e u) = settled_kind c _ y refl u
+effect_kind c (takes_out b rest d) = refl
+effect_kind c (takes_cap b rest d n l) = refl
+effect_kind c (takes_last b cause mark d p m) = refl
+effect_kind c streams_out = refl
+effect_kind c (streams_cap y u) = settled_kind c _ y refl u
+effect_kind c (stops_out codec n k) = refl
+effect_kind c (stops_cap codec n o k) = refl
+effect_kind c (rests_cap n o) = refl
+effect_kind c (sets_mark y n i b m d u) = settled_kind c _ y refl u
+effect_kind c (starts y n i b e u) = settled_kind c _ y refl u
+
+ended_kind : (c : Context) (j : JobData) (b : Buffer) {result : Option RunResult} (x : Context) → Ends c j b result x → x.kind ≡ c.kind
+ended_kind c j b x (alone up flags cursor codec used bytes dest_flags stamp w n) = refl
+ended_kind c j b x (kept up flags cursor codec used bytes dest_flags stamp d w n) = refl
+ended_kind c j b x (ended flags cursor codec used bytes dest_flags stamp d up w u n m) = refl
+ended_kind c j b x (halts step r geometry k phase events g w q f) = refl
+ended_kind c j b x (spends step k g q) = refl
+
+pub step_kind : (coder : Coder) (c : Context) {e : SoloEvent} {told : SoloReply} {slot : Slot} → Step coder c e told slot → KindSlot c slot
+unfolding KindSlot
+step_kind coder c (calls e) = effect_kind c e
+step_kind coder c rests = refl
+step_kind coder c (lacks_job n) = refl
+step_kind coder c (claims b rest k r n o j p d q) = refl
+step_kind coder c (finishes r x y job ends u w) = settled_kind c x y (ended_kind c _ job.source x ends) u
+step_kind coder c (faults r x y job ends u) = settled_kind c x y (ended_kind c _ job.source x ends) u
+
 -- Slots
 
 fresh_tidy : (kind : Kind) → IsTidy (fresh_context kind)
@@ -272,7 +324,7 @@ closed_tidy (Open kind) true = fresh_tidy kind
 closed_tidy (Open kind) false = tt
 closed_tidy request found = tt
 
-slot_tidy : (coder : Coder) (s : Slot) (e : SoloEvent) → IsSoundSlot s → TidySlot s → TidySlot (solo_step coder s e).slot
+pub slot_tidy : (coder : Coder) (s : Slot) (e : SoloEvent) → IsSoundSlot s → TidySlot s → TidySlot (solo_step coder s e).slot
 unfolding solo_step answer
 slot_tidy coder None (Called request bytes found) h t = closed_tidy request found
 slot_tidy coder None Claims h t = tt

@@ -137,11 +137,14 @@ after_run seg r j (copied bytes) = seg
 after_run seg r j (encoded frame) = after_encode seg r j frame
 after_run seg r j (decoded step) = after_decode seg r j step
 
+abbrev pub after_job : Coder → Segment → Context → Option Running → Segment
+after_job coder seg c None = seg
+after_job coder seg c (Some r) = after_run seg r (job_data c r) (run_result coder (job_data c r))
+
 -- the segment with the run that ended at the event
-abbrev pub after_event : Coder → Segment → Context → Option Running → SoloEvent → Segment
-after_event coder seg c (Some r) (Finishes false) =
-    after_run seg r (job_data c r) (run_result coder (job_data c r))
-after_event coder seg c running e = seg
+abbrev pub after_event : Coder → Segment → Context → SoloEvent → Segment
+after_event coder seg c (Finishes false) = after_job coder seg c c.running
+after_event coder seg c e = seg
 
 -- the OUTPUT buffers that the event added to ready: none but at a QBuf
 abbrev pub call_adds : Context → Context → Call → Reply → List Buffer
@@ -157,7 +160,7 @@ sources_added before after e told = []
 abbrev pub segment_of_step : Coder → Segment → Context → Context → SoloEvent → SoloReply → Segment
 segment_of_step coder seg before after e told =
     if resets before e told then fresh_segment after.out.ready else
-    (let ran = after_event coder seg before before.running e in
+    (let ran = after_event coder seg before e in
     record ran { sources = ran.sources ++ sources_added before after e told; retired = ran.retired ++ done_now before after })
 
 -- Open and Close begin one too.

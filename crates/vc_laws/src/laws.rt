@@ -1,6 +1,6 @@
 //! Laws over the runs of one slot, proved from the definitions alone.
 
-ghost use Rattle.vc_laws.specs.Drains.{DrainsBeginAtStop, MarksStay, LastIsTold, NothingAfterLast, AllWentBack, EndedQueueRefuses, StopsByChange, ChangesStop};
+ghost use Rattle.vc_laws.specs.Drains.{DrainsBeginAtStop, MarksStay, LastIsTold, NothingAfterLast, AllWentBack, EndedQueueRefuses, StopsByChange, ChangesStop, DrainsAreWhole};
 
 /// A drain begins at a STOP alone, and its mark is the number of OUTPUT buffers queued before it.
 pub fn drains_begin_at_stop()
@@ -40,4 +40,9 @@ pub fn stops_by_change()
 /// A run that finds a change, while CAPTURE streams, begins such a stop.
 pub fn changes_stop()
     ensures { ChangesStop }
+{}
+
+/// Where a decoder gives the LAST buffer of a drain, its runs consumed the sources before the mark, each whole and in order.
+pub fn drains_are_whole()
+    ensures { DrainsAreWhole }
 {}
