@@ -1,5 +1,6 @@
 pub mod DoneNow
 pub mod Effects
+pub mod Encoding
 pub mod Marks
 pub mod Segmenting
 pub mod Steps

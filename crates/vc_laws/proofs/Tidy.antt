@@ -109,7 +109,7 @@ kept_run c x (Some r) k g f j m h =
       due = ap (λ t. front_is_due t x.mark) j ∙ (ap (λ t. front_is_due c.out.job t) m ∙ h.due);
     }
 
-same_out_format : (kind : Kind) (formats : FormatPair) (want : Format) → (formats_for kind Cap formats want).out ≡ formats.out
+pub same_out_format : (kind : Kind) (formats : FormatPair) (want : Format) → (formats_for kind Cap formats want).out ≡ formats.out
 same_out_format Copy formats want = refl
 same_out_format Enc formats want = refl
 same_out_format Dec formats want = refl

@@ -1,6 +1,7 @@
 //! Laws over the runs of one slot, proved from the definitions alone.
 
 ghost use Rattle.vc_laws.specs.Drains.{DrainsBeginAtStop, MarksStay, LastIsTold, NothingAfterLast, AllWentBack, EndedQueueRefuses, StopsByChange, ChangesStop, DrainsAreWhole};
+ghost use Rattle.vc_laws.specs.Following.{EncoderFollows};
 
 /// A drain begins at a STOP alone, and its mark is the number of OUTPUT buffers queued before it.
 pub fn drains_begin_at_stop()
@@ -45,4 +46,9 @@ pub fn changes_stop()
 /// Where a decoder gives the LAST buffer of a drain, its runs consumed the sources before the mark, each whole and in order.
 pub fn drains_are_whole()
     ensures { DrainsAreWhole }
+{}
+
+/// The frames of an encoder's segment are those of the sequential encoder for the pictures that its runs consumed.
+pub fn encoder_follows()
+    ensures { EncoderFollows }
 {}
