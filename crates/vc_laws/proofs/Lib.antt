@@ -3,6 +3,7 @@ pub mod Effects
 pub mod Encoding
 pub mod Marks
 pub mod Segmenting
+pub mod Standing
 pub mod Steps
 pub mod Tidy
 pub mod Wholes

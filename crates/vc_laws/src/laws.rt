@@ -1,7 +1,8 @@
 //! Laws over the runs of one slot, proved from the definitions alone.
 
 ghost use Rattle.vc_laws.specs.Drains.{DrainsBeginAtStop, MarksStay, LastIsTold, NothingAfterLast, AllWentBack, EndedQueueRefuses, StopsByChange, ChangesStop, DrainsAreWhole};
-ghost use Rattle.vc_laws.specs.Following.{EncoderFollows};
+ghost use Rattle.vc_laws.specs.Following.{EncoderFollows, Follows};
+ghost use Rattle.vc_defs.specs.Laws.{Resuming};
 
 /// A drain begins at a STOP alone, and its mark is the number of OUTPUT buffers queued before it.
 pub fn drains_begin_at_stop()
@@ -51,4 +52,9 @@ pub fn drains_are_whole()
 /// The frames of an encoder's segment are those of the sequential encoder for the pictures that its runs consumed.
 pub fn encoder_follows()
     ensures { EncoderFollows }
+{}
+
+/// Placeholder.
+pub fn follows()
+    ensures { Resuming → Follows }
 {}
