@@ -1,7 +1,9 @@
+pub mod Decoding
 pub mod DoneNow
 pub mod Effects
 pub mod Encoding
 pub mod Marks
+pub mod Retiring
 pub mod Segmenting
 pub mod Standing
 pub mod Steps

@@ -111,14 +111,14 @@ Resumed limit g bytes more stamps stamp n ds =
     × ((reached consumed limit g (given_after n ds)).geometry ≡ geometry_after step.given present)
 
 -- the bytes by which the run moved the cursor
-abbrev moved_by : DecodedStep → List ℕ → Option FrameResult → List ℕ
+abbrev pub moved_by : DecodedStep → List ℕ → Option FrameResult → List ℕ
 moved_by step more o = elim o as (λ _. List ℕ) [
   | None ↦ more
   | Some r ↦ take step.moved more
 ]
 
 -- where the decoder stands after the run, by the result that it gave
-abbrev StandsAfter : ℕ → Option Geometry → List ℕ → List Stamp → List SegmentResult → DecodedStep → List ℕ → Stamp → Fourcc → ℕ → Option Geometry → Option FrameResult → Type 0
+abbrev pub StandsAfter : ℕ → Option Geometry → List ℕ → List Stamp → List SegmentResult → DecodedStep → List ℕ → Stamp → Fourcc → ℕ → Option Geometry → Option FrameResult → Type 0
 StandsAfter limit g bytes stamps found step more stamp fourcc from present o =
     let moved = moved_by step more o in
     IsStanding limit g (bytes ++ moved) (stamps ++ replicate (length moved) stamp) (with_result found from fourcc step.stamp o) (cond (is_change o) false true) (decoder step.state) (geometry_after o present)
