@@ -3,6 +3,7 @@ pub mod DoneNow
 pub mod Effects
 pub mod Encoding
 pub mod Marks
+pub mod Outcomes
 pub mod Retiring
 pub mod Segmenting
 pub mod Standing

@@ -186,7 +186,7 @@ IsAfterResults before after b =
 
 abbrev pub ResultsBeforeChange : Type 0
 ResultsBeforeChange =
-    (events : List SoloEvent) (e : SoloEvent) (before after : Context) → solo_slot the_coder None events ≡ Some before → (solo_step the_coder (Some before) e).slot ≡ Some after → gives_change before after ≡ true → (b : Buffer) × IsAfterResults (segment_of the_coder events) (segment_of the_coder (events ++ e ∷ [])) b
+    (events : List SoloEvent) (e : SoloEvent) (before after : Context) → solo_slot the_coder None events ≡ Some before → (solo_step the_coder (Some before) e).slot ≡ Some after → before.kind ≡ Dec → gives_change before after ≡ true → (b : Buffer) × IsAfterResults (segment_of the_coder events) (segment_of the_coder (events ++ e ∷ [])) b
 
 -- after a change comes nothing, or a picture or a damage of the same frame
 abbrev pub IsAnswered : FrameResult → List FrameResult → Type 0
@@ -200,7 +200,7 @@ ChangesAreAnswered (r ∷ later) = IsAnswered r later × ChangesAreAnswered late
 -- The next result of a segment after a change is that of the frame that raised it.
 abbrev pub FrameAfterChange : Type 0
 FrameAfterChange =
-    (events : List SoloEvent) (r : Running) → (segment_of the_coder events).first ≡ Some r → ChangesAreAnswered (whats (segment_of the_coder events))
+    (events : List SoloEvent) (c : Context) (r : Running) → solo_slot the_coder None events ≡ Some c → c.kind ≡ Dec → (segment_of the_coder events).first ≡ Some r → ChangesAreAnswered (whats (segment_of the_coder events))
 
 -- Two runs
 

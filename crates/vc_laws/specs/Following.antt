@@ -43,8 +43,21 @@ pub record FollowsDecoder (seg : Segment) (r : Running) : Type 0 where
   pub pictures : filter is_picture (whats seg) ≡ filter is_picture (results_of seg r)
   pub stamps : All (λ (x : SegmentResult). x.stamp ≡ get_or seg.stamps x.what.position zero_stamp) seg.results
 
+-- `r` is what the first run of the segment took; before it a segment has neither bytes nor results.
 abbrev pub Follows : Type 0
-Follows = (events : List SoloEvent) (r : Running) → (segment_of the_coder events).first ≡ Some r → FollowsDecoder (segment_of the_coder events) r
+Follows =
+    (events : List SoloEvent) (c : Context) (r : Running) → solo_slot the_coder None events ≡ Some c → c.kind ≡ Dec → (segment_of the_coder events).first ≡ Some r → FollowsDecoder (segment_of the_coder events) r
+
+-- a segment without a run
+pub record IsWithoutRun (seg : Segment) : Type 0 where
+  pub bytes : seg.bytes ≡ []
+  pub stamps : seg.stamps ≡ []
+  pub results : seg.results ≡ []
+  pub given : seg.given ≡ true
+
+abbrev pub SegmentsBegin : Type 0
+SegmentsBegin =
+    (events : List SoloEvent) (c : Context) → solo_slot the_coder None events ≡ Some c → c.kind ≡ Dec → (segment_of the_coder events).first ≡ None → IsWithoutRun (segment_of the_coder events)
 
 -- Encoders
 

@@ -1,7 +1,7 @@
 //! Laws over the runs of one slot, proved from the definitions alone.
 
-ghost use Rattle.vc_laws.specs.Drains.{DrainsBeginAtStop, MarksStay, LastIsTold, NothingAfterLast, AllWentBack, EndedQueueRefuses, StopsByChange, ChangesStop, DrainsAreWhole};
-ghost use Rattle.vc_laws.specs.Following.{EncoderFollows, Follows};
+ghost use Rattle.vc_laws.specs.Drains.{DrainsBeginAtStop, MarksStay, LastIsTold, NothingAfterLast, AllWentBack, EndedQueueRefuses, StopsByChange, ChangesStop, DrainsAreWhole, DrainsGiveAll, FrameAfterChange, SameDrainsSameResults};
+ghost use Rattle.vc_laws.specs.Following.{EncoderFollows, Follows, SegmentsBegin, RetiredAreResults};
 ghost use Rattle.vc_defs.specs.Laws.{Resuming};
 
 /// A drain begins at a STOP alone, and its mark is the number of OUTPUT buffers queued before it.
@@ -54,7 +54,36 @@ pub fn encoder_follows()
     ensures { EncoderFollows }
 {}
 
-/// Placeholder.
-pub fn follows()
+/// The CAPTURE buffers that a decoder's runs put on done are the segment's results other than changes, one for one.
+pub fn retired_are_results()
+    ensures { RetiredAreResults }
+{}
+
+/// Before the first run of a segment it has neither bytes nor results.
+pub fn segments_begin()
+    ensures { SegmentsBegin }
+{}
+
+/// The results of a decoder's segment are the sequential decoder's for the bytes that its runs consumed. This is
+/// conditional: it rests on the law of resuming of the coded format, which it takes as a premise.
+pub fn follows_if_resuming()
     ensures { Resuming → Follows }
+{}
+
+/// Where a decoder gives the LAST buffer of a drain, all results of the segment's bytes were given. This is conditional:
+/// it rests on the law of resuming of the coded format, which it takes as a premise.
+pub fn drains_give_all_if_resuming()
+    ensures { Resuming → DrainsGiveAll }
+{}
+
+/// The next result of a segment after a change is that of the frame that raised it. This is conditional: it rests on the
+/// law of resuming of the coded format, which it takes as a premise.
+pub fn frame_after_change_if_resuming()
+    ensures { Resuming → FrameAfterChange }
+{}
+
+/// Neither schedule nor cutting matters to a finished drain. This is conditional: it rests on the law of resuming of the
+/// coded format, which it takes as a premise.
+pub fn same_drains_if_resuming()
+    ensures { Resuming → SameDrainsSameResults }
 {}
