@@ -1,12 +1,10 @@
 -- A decoder's segment after every list of events: what its runs gave, what went to done, and where the codec stands.
-use Rattle.std.proofs.Common.{ℕ, zero, suc, ◌≡◌, ◌≤◌, ◌+◌, ◌-◌, ◌==◌, min, nat_lt, Bool, true, false, not, cond, ◌&&◌, ◌||◌, is_some, Option, Some, None, List, [], ◌∷◌, ◌++◌, length, drop, take, replicate, refl, sym, ap, ◌∙◌, subst, arith, length-append, ◌⊎◌, inl, inr}
+use Rattle.std.proofs.Common.{ℕ, ◌≡◌, ◌≤◌, ◌+◌, ◌-◌, Bool, true, false, cond, ◌||◌, Option, Some, None, List, [], ◌∷◌, ◌++◌, length, drop, refl, sym, ap, ◌∙◌, subst, arith, length-append}
 use Rattle.std.proofs.lemmas.Bool.{false≢true, lt-ltb}
 use Rattle.std.proofs.lemmas.List.{append_assoc}
 use Rattle.std.proofs.lemmas.List.Elements.{filter-append}
 use Rattle.vc_base.specs.declared.Stamp.{Stamp}
 use Rattle.vc_base.specs.declared.Format.{Format}
-use Rattle.vc_base.specs.declared.Side.TheVariants.{Out, Cap}
-use Rattle.vc_base.specs.declared.Kind.{Kind}
 use Rattle.vc_base.specs.declared.Kind.TheVariants.{Copy, Enc, Dec}
 use Rattle.vc_base.specs.declared.Call.{Call}
 use Rattle.vc_base.specs.declared.Call.TheVariants.{Open}
@@ -15,24 +13,23 @@ use Rattle.vc_base.specs.Buffers.{Buffer, QueueState, buffer_count, created, kno
 use Rattle.vc_defs.specs.declared.Geometry.{Geometry}
 use Rattle.vc_defs.specs.Decoder.{FrameResult, ResultKind, Picture, Damaged, Changed, DecoderState, fresh_decoder, DecodedStep, decode, geometry_after, geometry_after_kind}
 use Rattle.vc_defs.specs.Laws.{Resuming}
-use Rattle.vc_model.specs.Formats.{formats_for}
-use Rattle.vc_model.specs.Coder.{Coder, CodecState, no_codec, encoder, decoder, reset, the_coder}
+use Rattle.vc_model.specs.Coder.{CodecState, no_codec, encoder, decoder, reset, the_coder}
 use Rattle.vc_model.specs.Context.{Context, Slot, Running, RunSort, copy, encode, probe, Cause, drain, change, PhaseState, run, owe, last, stopped, fresh_context, is_dec, is_enc}
 use Rattle.vc_model.specs.Context.{decode as decode_sort}
 use Rattle.vc_model.specs.Answer.{answer, closed_answer, mark_after_restart}
-use Rattle.vc_model.specs.Runs.{front_is_due, sort_of, running_of, source_of, JobData, job_data, RunResult, copied, encoded, decoded, run_result, run_of, decode_run}
-use Rattle.vc_model.specs.Solo.{SoloEvent, Called, Claims, Finishes, SoloReply, Answered, Claimed, Finished, Nothing, solo_step, solo_slot}
-use Rattle.vc_model.specs.Sound.{CountsUp, HasCodec, dest_count, IsFirm, IsSound, IsSoundSlot}
+use Rattle.vc_model.specs.Runs.{front_is_due, sort_of, running_of, source_of, JobData, job_data, RunResult, decoded, run_result, run_of, decode_run}
+use Rattle.vc_model.specs.Solo.{SoloEvent, Called, Claims, Finishes, SoloReply, Answered, Claimed, Finished, solo_step, solo_slot}
+use Rattle.vc_model.specs.Sound.{CountsUp, HasCodec, dest_count, IsSound, IsSoundSlot}
 use Rattle.vc_model.specs.Drains.{done_now}
-use Rattle.vc_laws.specs.Segments.{SegmentResult, Segment, fresh_segment, call_resets, call_adds, first_of, consumed, with_result, is_change, is_change_kind, tail_length, after_run, after_decode, segment_of_step, segment_of_slots, segment_step, segment_of}
+use Rattle.vc_laws.specs.Segments.{Segment, fresh_segment, call_resets, call_adds, first_of, with_result, is_change, is_change_kind, tail_length, after_run, after_decode, segment_of_step, segment_of_slots, segment_step, segment_of}
 use Rattle.vc_laws.specs.Following.{OneForOne, in_buffers, is_by_run, by_runs}
 use Rattle.vc_laws.proofs.Effects.{CodecAfterFormat, CodecAfterBuffers, CodecAfterOutput, CodecAfterCapture, MarkAfterLast, Settles, still, owes, gives, Effect, stays, closes, has_events, has_rates, has_out_format, has_cap_format, has_out_buffers, has_cap_buffers, adds_out, adds_cap, queues_out, queues_cap, takes_out, takes_cap, takes_last, streams_out, streams_cap, stops_out, stops_cap, rests_cap, sets_mark, starts}
-use Rattle.vc_laws.proofs.Steps.{done_out, back_out, moved_out, ClaimsCap, probes, runs, HasJob, Puts, puts_fault, puts_copy, puts_frame, puts_picture, puts_damage, Ends, alone, kept, ended, halts, spends, Step, calls, rests, lacks_job, claims, finishes, faults, step_of}
+use Rattle.vc_laws.proofs.Steps.{moved_out, probes, runs, HasJob, Puts, puts_fault, puts_copy, puts_frame, puts_picture, puts_damage, Ends, alone, kept, ended, halts, spends, Step, calls, rests, lacks_job, claims, finishes, faults, step_of}
 use Rattle.vc_laws.proofs.Tidy.{IsTidy, IsRunOf, HasRun, TidySlot, KindSlot, step_kind, same_out_format}
 use Rattle.vc_laws.proofs.Encoding.{faulted_codec}
 use Rattle.vc_laws.proofs.Segmenting.{goes_on, begins_anew, finished_segment, nothing_segment, always_holds}
 use Rattle.vc_laws.proofs.Standing.{IsStanding, StandsAfter, stands_on, stands_first}
-use Rattle.vc_laws.proofs.Retiring.{retired_more, NoRuns, no_runs_is, effect_runs, quiet_runs, pairs_append, buffers_more, IsBlankStep, gives_none, gives_change, blank_step, NoBuffer, blank_gives_no_buffer, ended_gave, gave_in}
+use Rattle.vc_laws.proofs.Retiring.{retired_more, NoRuns, no_runs_is, effect_runs, quiet_runs, pairs_append, buffers_more, IsBlankStep, gives_none, gives_change, blank_step, blank_gives_no_buffer, ended_gave, gave_in}
 
 -- a segment without a run, and the codec state with which it begins
 pub record IsUntouched (seg : Segment) (now : CodecState) : Type 0 where
@@ -434,6 +431,7 @@ finish_decoder seg c r job x y word s t k h ends u =
     change_is : (b : Bool) → cond b false true ≡ false → b ≡ true
     change_is true e = refl
     change_is false e = absurd (false≢true (sym e))
+
     first_limit : (seg : Segment) (c : Context) (r : Running) → IsRunOf c r → IsDecoding seg c → (first : Option Running) → seg.first ≡ first → (q : Running) → first_of first r ≡ Some q → q.limit ≡ c.formats.out.size
     first_limit seg c r t h None e q f = ap (λ z. z.limit) (let same : q ≡ r = cc in same) ∙ t.limit
     first_limit seg c r t h (Some p) e q f = ap (λ z. z.limit) (let same : q ≡ p = cc in same) ∙ h.limit p e

@@ -1,8 +1,8 @@
 -- Which CAPTURE buffers go to done in a step, and which of them has LAST.
-use Rattle.std.proofs.Common.{ℕ, ◌≡◌, ◌≤◌, ◌+◌, ◌==◌, eqb, nat_lt, nat_le, get_or, Bool, true, false, not, cond, ◌&&◌, ◌||◌, is_none, Option, Some, None, List, [], ◌∷◌, ◌++◌, refl, sym, ap, ◌∙◌, subst, arith, ◌⊎◌, inl, inr, ⊎_elim}
+use Rattle.std.proofs.Common.{ℕ, ◌≡◌, ◌≤◌, ◌+◌, eqb, nat_lt, nat_le, get_or, Bool, true, false, not, cond, ◌&&◌, ◌||◌, is_none, Option, Some, None, List, [], ◌∷◌, ◌++◌, refl, sym, ap, ◌∙◌, subst, arith, ◌⊎◌, inl, inr, ⊎_elim}
 use Rattle.std.specs.Prelude.{bit_and, codes}
 use Rattle.std.specs.List.{filter, list_all}
-use Rattle.std.proofs.lemmas.Bool.{false≢true, lt-ltb, ltb-true, le-leb, leb-true}
+use Rattle.std.proofs.lemmas.Bool.{false≢true, ltb-true, le-leb, leb-true}
 use Rattle.std.proofs.lemmas.List.{append-nil, append_assoc}
 use Rattle.std.proofs.lemmas.List.Elements.{filter-append}
 use Rattle.std.proofs.lemmas.List.Folds.{list_all-append}
@@ -10,27 +10,24 @@ use Rattle.vc_base.specs.declared.Stamp.{Stamp}
 use Rattle.vc_base.specs.declared.Fourcc.{Fourcc}
 use Rattle.vc_base.specs.declared.Side.{Side}
 use Rattle.vc_base.specs.declared.Side.TheVariants.{Out, Cap}
-use Rattle.vc_base.specs.declared.Errno.{Errno}
 use Rattle.vc_base.specs.declared.Errno.TheVariants.{Inval, Again, Pipe}
 use Rattle.vc_base.specs.declared.Call.{Call}
-use Rattle.vc_base.specs.declared.Call.TheVariants.{DqBuf}
 use Rattle.vc_base.specs.declared.Reply.{Reply}
-use Rattle.vc_base.specs.declared.Reply.TheVariants.{Refused}
 use Rattle.vc_base.specs.Buffers.{Buffer, QueueState, is_empty, refuse_if, dqbuf_refusal, known_bytes, last_flag, error_flag, zero_stamp}
-use Rattle.vc_defs.specs.Decoder.{FrameResult, Picture, Damaged, Changed, DecodedStep, step_outcome, outcome_of, outcome_of_result}
+use Rattle.vc_defs.specs.Decoder.{outcome_of, outcome_of_result}
 use Rattle.vc_model.specs.Coder.{Coder, CodecState}
-use Rattle.vc_model.specs.Context.{Context, Slot, Running, Cause, drain, change, PhaseState, run, owe, last, stopped, is_run, is_stopped, is_drain, is_drained}
+use Rattle.vc_model.specs.Context.{Context, Slot, Cause, drain, change, PhaseState, run, owe, last, stopped, is_run, is_stopped, is_drain, is_drained}
 use Rattle.vc_model.specs.Answer.{answer, context_answer, unless_or_block, taken_answer, start_is_early, without_drain_stop, is_stopped_by_drain}
 use Rattle.vc_model.specs.Runs.{JobData, job_data, RunResult, copied, encoded, decoded, run_result, type_flag, result_word, run_word, finish_word}
 use Rattle.vc_model.specs.Solo.{SoloEvent, Called, Claims, Finishes, SoloReply, Answered, Claimed, Finished, Nothing, solo_step}
-use Rattle.vc_model.specs.Sound.{is_last, stops_by_change, is_put_off, IsFirm, IsSound, IsSoundSlot}
+use Rattle.vc_model.specs.Sound.{is_last, stops_by_change, is_put_off, IsSound, IsSoundSlot}
 use Rattle.vc_model.specs.Drains.{is_last_by_drain, gives_last, done_now}
 use Rattle.vc_model.proofs.Tests.{and_left, and_right}
 use Rattle.vc_model.proofs.Firm.{idle}
 use Rattle.vc_model.proofs.Ending.{always_sound, step_sound}
-use Rattle.vc_laws.specs.Drains.{is_last_by_change, gives_change, is_flagged_last, EndsWithLast, LastIsTold, is_over, NothingAfterLast, IsNewest, NoneIsOut, AllWentBack, EndedQueueRefuses, is_owed, IsOneLast, StopsByChange, IsFirstOfStop, ChangesStop}
+use Rattle.vc_laws.specs.Drains.{is_last_by_change, gives_change, is_flagged_last, EndsWithLast, LastIsTold, is_over, NothingAfterLast, IsNewest, AllWentBack, EndedQueueRefuses, is_owed, IsOneLast, StopsByChange, IsFirstOfStop, ChangesStop}
 use Rattle.vc_laws.proofs.Effects.{Settles, still, owes, gives, Effect, stays, closes, has_events, has_rates, has_out_format, has_cap_format, has_out_buffers, has_cap_buffers, adds_out, adds_cap, queues_out, queues_cap, takes_out, takes_cap, takes_last, streams_out, streams_cap, stops_out, stops_cap, rests_cap, sets_mark, starts}
-use Rattle.vc_laws.proofs.Steps.{HasJob, Puts, puts_fault, puts_copy, puts_frame, puts_picture, puts_damage, Ends, alone, kept, ended, halts, spends, Returns, none_taken, given_back, ClaimsCap, probes, runs, Step, calls, rests, lacks_job, claims, finishes, faults, step_of}
+use Rattle.vc_laws.proofs.Steps.{Puts, puts_fault, puts_copy, puts_frame, puts_picture, puts_damage, Ends, alone, kept, ended, halts, spends, Returns, none_taken, given_back, probes, runs, Step, calls, rests, lacks_job, claims, finishes, faults, step_of}
 use Rattle.vc_laws.proofs.Tidy.{AreBelow, IsTidy, always_tidy}
 
 -- The buffers that are new

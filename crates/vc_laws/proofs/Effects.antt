@@ -1,5 +1,5 @@
 -- What an answered call does to an open context: a case for each effect that there is.
-use Rattle.std.proofs.Common.{ℕ, ◌≡◌, ◌≤◌, ◌+◌, ◌==◌, min, nat_lt, Bool, true, false, not, cond, ◌&&◌, ◌||◌, is_none, is_some, Option, Some, None, List, [], ◌∷◌, ◌++◌, refl, sym, ap, ◌∙◌, subst, arith, ◌⊎◌, inl, inr}
+use Rattle.std.proofs.Common.{ℕ, ◌≡◌, ◌≤◌, ◌==◌, min, nat_lt, Bool, true, false, not, cond, ◌&&◌, ◌||◌, is_none, is_some, Option, Some, None, List, [], ◌∷◌, ◌++◌, refl, sym, ap, ◌∙◌, subst, ◌⊎◌, inl, inr}
 use Rattle.std.proofs.lemmas.Bool.{ltb-false, le-ltb, false≢true, or_parts}
 use Rattle.std.proofs.lemmas.List.Folds.{list_any-append}
 use Rattle.vc_base.specs.declared.Stamp.{Stamp}
@@ -14,18 +14,18 @@ use Rattle.vc_base.specs.declared.Errno.TheVariants.{NoEnt, Again, NoMem, Busy, 
 use Rattle.vc_base.specs.declared.Call.{Call}
 use Rattle.vc_base.specs.declared.Call.TheVariants.{Open, Close, EnumFmt, GetFmt, TryFmt, SetFmt, ReqBufs, CreateBufs, QueryBuf, QBuf, DqBuf, StreamOn, StreamOff, Subscribe, Unsubscribe, DqEvent, DecCmd, EncCmd, GetCtrl, SetCtrl, Poll}
 use Rattle.vc_base.specs.declared.Reply.{Reply}
-use Rattle.vc_base.specs.declared.Reply.TheVariants.{Done, Desc, Fmt, Count, Created, Info, Value, Ready, Refused, Blocked, Happened}
-use Rattle.vc_base.specs.Buffers.{Buffer, QueueState, buffer_count, is_empty, is_out, refuse_if, with_index, queued_buffer, queue_held, held_refusal, take_front, long_enough, most_buffers, reqbufs_after, create_refusal, create_after, created, qbuf_after, dqbuf_after, dqbuf_refusal, querybuf_reply, taken, streamon_refusal, streamon_after, streamoff_after, lend_front, lend_after, retire_after, last_flag, zero_stamp}
+use Rattle.vc_base.specs.declared.Reply.TheVariants.{Done, Fmt, Count, Created, Refused, Blocked}
+use Rattle.vc_base.specs.Buffers.{Buffer, QueueState, buffer_count, is_empty, refuse_if, with_index, queued_buffer, queue_held, held_refusal, take_front, long_enough, most_buffers, reqbufs_after, create_refusal, create_after, created, qbuf_after, dqbuf_refusal, taken, streamon_refusal, streamon_after, streamoff_after, lend_front, retire_after, last_flag, zero_stamp}
 use Rattle.vc_base.specs.Events.{EventState, Event, raise_after, eos_event, event_reply, take_event_after, subscribe_after, unsubscribe_after, event_refusal}
 use Rattle.vc_defs.specs.declared.Geometry.{Geometry}
 use Rattle.vc_defs.specs.Encoder.{RunRates}
-use Rattle.vc_model.specs.Formats.{FormatPair, formats_for}
+use Rattle.vc_model.specs.Formats.{formats_for}
 use Rattle.vc_model.specs.Coder.{CodecState, reset}
-use Rattle.vc_model.specs.Context.{Context, Slot, Running, Cause, drain, change, PhaseState, run, owe, last, stopped, queue_of, with_queue, format_of, is_dec, is_enc, is_run, is_stopped, is_drained, has_before, sizeimage, settle, settle_owed, settle_last, give_last, raise_end}
+use Rattle.vc_model.specs.Context.{Context, Slot, Running, Cause, drain, change, PhaseState, run, owe, last, stopped, queue_of, with_queue, is_dec, is_enc, is_run, is_stopped, is_drained, has_before, sizeimage, settle, settle_owed, settle_last, give_last}
 use Rattle.vc_model.specs.Answer.{Answer, unchanged, refused, answered, unless, if_found, unless_or_block, desc_answer, set_answer, set_refusal, after_new_format, reqbufs_answer, after_new_buffers, create_answer, query_answer, qbuf_answer, is_part_of_picture, taken_answer, after_taking, stop_at_last, is_ended, streamon_answer, streamoff_answer, streamoff_effect, without_drain_stop, after_output_off, mark_after_restart, after_capture_off, both_stream, is_stopped_by_drain, stop_answer, start_is_early, start_answer, command_answer, value_answer, control_answer, context_answer}
 use Rattle.vc_model.specs.Drains.{takes_a_buffer}
 use Rattle.vc_model.specs.Sound.{is_put_off, is_held_back, is_last, IsPast, IsSettled, IsFirm, IsSound}
-use Rattle.vc_model.proofs.Tests.{and_left, and_right, not_true, not_false}
+use Rattle.vc_model.proofs.Tests.{not_false}
 use Rattle.vc_model.proofs.Settled.{settles_once}
 use Rattle.vc_laws.specs.Segments.{call_resets}
 use Rattle.vc_laws.specs.Drains.{is_stop_call}

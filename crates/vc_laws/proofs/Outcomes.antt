@@ -1,32 +1,32 @@
 -- What a decoder's runs gave against the sequential decoder; all but the first two laws rest on the law of resuming.
-use Rattle.std.proofs.Common.{ℕ, ◌≡◌, ◌<◌, ◌+◌, nat_lt, get_or, Bool, true, false, not, ◌&&◌, ◌||◌, Option, Some, None, List, [], ◌∷◌, ◌++◌, length, take, drop, map, refl, sym, ap, ◌∙◌, subst, ◌⊎◌, inl, inr}
-use Rattle.std.specs.List.{All, filter}
+use Rattle.std.proofs.Common.{ℕ, ◌≡◌, Bool, true, false, not, ◌||◌, Option, Some, None, List, [], ◌∷◌, ◌++◌, length, take, drop, map, refl, sym, ap, ◌∙◌, subst}
+use Rattle.std.specs.List.{filter}
 use Rattle.std.proofs.lemmas.Bool.{false≢true}
 use Rattle.std.proofs.lemmas.List.{append-nil, map-append, take-append-drop}
 use Rattle.std.proofs.lemmas.List.Elements.{filter-append}
 use Rattle.vc_base.specs.declared.Kind.TheVariants.{Dec}
 use Rattle.vc_base.specs.Buffers.{Buffer}
 use Rattle.vc_defs.specs.declared.Geometry.{Geometry}
-use Rattle.vc_defs.specs.Decoder.{FrameResult, ResultKind, Picture, Damaged, Changed, GivenResult, given_in, results}
+use Rattle.vc_defs.specs.Decoder.{FrameResult, ResultKind, Picture, Damaged, Changed, GivenResult, results}
 use Rattle.vc_defs.specs.Laws.{Resuming, from_start, AreOrdered, IsNext, IsNoChange}
 use Rattle.vc_defs.proofs.ResultOrder.{results_are_ordered}
 use Rattle.vc_model.specs.Coder.{CodecState, the_coder}
 use Rattle.vc_model.specs.Context.{Context, Running, PhaseState, run, owe, last, stopped, is_run, is_drained, has_before}
 use Rattle.vc_model.specs.Runs.{front_is_due}
-use Rattle.vc_model.specs.Solo.{SoloEvent, solo_step, solo_slot}
+use Rattle.vc_model.specs.Solo.{solo_step, solo_slot}
 use Rattle.vc_model.specs.Sound.{IsSound, IsSoundSlot, is_at_end}
-use Rattle.vc_model.specs.Drains.{is_last_by_drain, gives_last}
+use Rattle.vc_model.specs.Drains.{is_last_by_drain}
 use Rattle.vc_model.proofs.Tests.{and_left}
 use Rattle.vc_model.proofs.Firm.{idle}
 use Rattle.vc_model.proofs.Ending.{always_sound, step_sound}
-use Rattle.vc_laws.specs.Segments.{SegmentResult, Segment, segment_of, whats, is_change_kind}
-use Rattle.vc_laws.specs.Following.{IsFront, is_picture, is_no_change, results_of, FollowsDecoder, Follows, IsWithoutRun, SegmentsBegin, RetiredAreResults}
-use Rattle.vc_laws.specs.Drains.{DrainsGiveAll, IsAnswered, ChangesAreAnswered, FrameAfterChange, EndsInDrain, SameDrainsSameResults}
+use Rattle.vc_laws.specs.Segments.{Segment, segment_of, whats, is_change_kind}
+use Rattle.vc_laws.specs.Following.{is_picture, is_no_change, FollowsDecoder, Follows, SegmentsBegin, RetiredAreResults}
+use Rattle.vc_laws.specs.Drains.{DrainsGiveAll, IsAnswered, ChangesAreAnswered, FrameAfterChange, SameDrainsSameResults}
 use Rattle.vc_laws.proofs.Steps.{step_of}
 use Rattle.vc_laws.proofs.Tidy.{KindSlot, step_kind}
 use Rattle.vc_laws.proofs.Segmenting.{slot_more}
 use Rattle.vc_laws.proofs.Standing.{IsStanding}
-use Rattle.vc_laws.proofs.Decoding.{IsDecoding, decoding}
+use Rattle.vc_laws.proofs.Decoding.{decoding}
 
 -- Segments
 

@@ -1,31 +1,29 @@
 -- Which CAPTURE buffers the runs of a decoder put on done.
-use Rattle.std.proofs.Common.{ℕ, ◌≡◌, ◌≤◌, ◌+◌, ◌==◌, eqb, Bool, true, false, not, cond, ◌&&◌, Option, Some, None, List, [], ◌∷◌, ◌++◌, length, refl, sym, ap, ◌∙◌, subst, arith, ◌⊎◌, inl, inr}
-use Rattle.std.specs.List.{filter}
+use Rattle.std.proofs.Common.{ℕ, ◌≡◌, ◌≤◌, ◌+◌, eqb, Bool, true, false, not, cond, ◌&&◌, Option, Some, None, List, [], ◌∷◌, ◌++◌, length, refl, sym, ap, ◌∙◌, subst, arith, inl, inr}
 use Rattle.std.proofs.lemmas.Bool.{false≢true}
 use Rattle.std.proofs.lemmas.List.{append-nil}
 use Rattle.std.proofs.lemmas.List.Elements.{filter-append}
 use Rattle.vc_base.specs.declared.Stamp.{Stamp}
 use Rattle.vc_base.specs.declared.Fourcc.{Fourcc}
 use Rattle.vc_base.specs.declared.Side.{Side}
-use Rattle.vc_base.specs.declared.Side.TheVariants.{Out, Cap}
+use Rattle.vc_base.specs.declared.Side.TheVariants.{Cap}
 use Rattle.vc_base.specs.declared.Call.{Call}
 use Rattle.vc_base.specs.declared.Reply.{Reply}
 use Rattle.vc_base.specs.Buffers.{Buffer, QueueState, known_bytes, last_flag, error_flag, zero_stamp}
-use Rattle.vc_defs.specs.declared.Geometry.{Geometry}
 use Rattle.vc_defs.specs.declared.Header.{Header}
 use Rattle.vc_defs.specs.Raw.{raw_of}
 use Rattle.vc_defs.specs.Places.{Frame, OpenFrame, places}
 use Rattle.vc_defs.specs.Decoder.{FrameResult, ResultKind, Picture, Damaged, Changed, GivenResult, BetweenFrames, DecoderState, DecodedStep, decode, decoded_by, given_in, given_in_frames, given_at_header, given_then, moved_result}
-use Rattle.vc_model.specs.Coder.{CodecState, decoder}
-use Rattle.vc_model.specs.Context.{Context, Slot, Cause, drain, change, PhaseState, run, owe, last, stopped}
-use Rattle.vc_model.specs.Runs.{JobData, RunResult, copied, encoded, decoded, type_flag}
+use Rattle.vc_model.specs.Coder.{CodecState}
+use Rattle.vc_model.specs.Context.{Context, Slot, run}
+use Rattle.vc_model.specs.Runs.{JobData, RunResult, decoded, type_flag}
 use Rattle.vc_model.specs.Drains.{done_now}
-use Rattle.vc_laws.specs.Segments.{SegmentResult, with_result, is_change_kind, is_change}
-use Rattle.vc_laws.specs.Following.{HasFlags, HoldsKind, IsBufferOf, OneForOne, in_buffers, is_no_change, is_by_run, by_runs}
+use Rattle.vc_laws.specs.Segments.{SegmentResult, with_result, is_change_kind}
+use Rattle.vc_laws.specs.Following.{HoldsKind, OneForOne, in_buffers, is_no_change, is_by_run, by_runs}
 use Rattle.vc_laws.proofs.Effects.{Settles, still, owes, gives, Effect, stays, closes, has_events, has_rates, has_out_format, has_cap_format, has_out_buffers, has_cap_buffers, adds_out, adds_cap, queues_out, queues_cap, takes_out, takes_cap, takes_last, streams_out, streams_cap, stops_out, stops_cap, rests_cap, sets_mark, starts}
 use Rattle.vc_laws.proofs.Steps.{Puts, puts_fault, puts_copy, puts_frame, puts_picture, puts_damage, Ends, alone, kept, ended, halts, spends, Returns, none_taken, given_back}
 use Rattle.vc_laws.proofs.Tidy.{IsTidy}
-use Rattle.vc_laws.proofs.DoneNow.{Made, made_now, made_same, made_rest, made_none, made_more, last_settled}
+use Rattle.vc_laws.proofs.DoneNow.{Made, made_now, made_same, made_rest, made_none, made_more}
 
 -- Buffers that no run gave
 

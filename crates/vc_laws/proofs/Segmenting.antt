@@ -1,9 +1,8 @@
 -- Segments along a run: how one goes on in a step, and what holds of it after every list of events.
-use Rattle.std.proofs.Common.{◌≡◌, Bool, true, false, cond, Option, Some, None, List, [], ◌∷◌, ◌++◌, length, drop, refl, sym, ap, ◌∙◌, subst}
+use Rattle.std.proofs.Common.{◌≡◌, Bool, true, false, cond, Some, None, List, [], ◌∷◌, ◌++◌, length, drop, refl, ap, ◌∙◌}
 use Rattle.std.proofs.Math.Seq.{drop-length}
 use Rattle.std.specs.Prelude.{ℕ}
-use Rattle.vc_base.specs.declared.Stamp.{Stamp}
-use Rattle.vc_base.specs.declared.Side.TheVariants.{Out, Cap}
+use Rattle.vc_base.specs.declared.Side.TheVariants.{Out}
 use Rattle.vc_base.specs.declared.Call.{Call}
 use Rattle.vc_base.specs.declared.Call.TheVariants.{QBuf}
 use Rattle.vc_base.specs.declared.Reply.{Reply}
@@ -13,7 +12,7 @@ use Rattle.vc_model.specs.Coder.{Coder}
 use Rattle.vc_model.specs.Context.{Context, Slot, Running}
 use Rattle.vc_model.specs.Runs.{job_data, run_result}
 use Rattle.vc_model.specs.Places.{is_honest, AreHonest}
-use Rattle.vc_model.specs.Solo.{SoloEvent, Called, Finishes, SoloReply, Answered, Finished, Nothing, solo_step, solo_run, solo_slot}
+use Rattle.vc_model.specs.Solo.{SoloEvent, Called, Finishes, Answered, Finished, Nothing, solo_step, solo_run, solo_slot}
 use Rattle.vc_model.specs.Sound.{IsSoundSlot}
 use Rattle.vc_model.specs.Drains.{done_now}
 use Rattle.vc_model.proofs.Ending.{step_sound}

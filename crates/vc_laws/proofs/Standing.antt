@@ -1,9 +1,9 @@
 -- Where a decoder stands after the runs of a segment, and where it stands after one more. It rests on the law of resuming.
-use Rattle.std.proofs.Common.{ℕ, zero, suc, ◌≡◌, ◌≤◌, ◌<◌, ◌+◌, ◌-◌, get_or, Bool, true, false, not, cond, Option, Some, None, List, [], ◌∷◌, ◌++◌, length, take, drop, map, replicate, refl, sym, ap, ◌∙◌, subst, arith, length-append, ◌⊎◌, inl, inr, ⊎_elim}
+use Rattle.std.proofs.Common.{ℕ, zero, suc, ◌≡◌, ◌≤◌, ◌<◌, ◌+◌, ◌-◌, get_or, Bool, true, false, cond, Option, Some, None, List, [], ◌∷◌, ◌++◌, length, take, drop, map, replicate, refl, sym, ap, ◌∙◌, subst, arith, length-append, ⊎_elim}
 use Rattle.std.specs.Prelude.{option_map}
 use Rattle.std.specs.List.{All, filter}
 use Rattle.std.proofs.lemmas.Bool.{false≢true}
-use Rattle.std.proofs.lemmas.List.{append-nil, append_assoc, map-append, take-append-drop, take-append-le, drop-append-le, length-take-le, length-replicate, length-drop, drop-map, get_or_append_left, replicate-append-replicate}
+use Rattle.std.proofs.lemmas.List.{append_assoc, map-append, take-append-drop, take-append-le, drop-append-le, length-take-le, length-replicate, length-drop, drop-map, get_or_append_left, replicate-append-replicate}
 use Rattle.std.proofs.lemmas.List.Elements.{All-nil, All-push, All-head, All-drop}
 use Rattle.std.proofs.Math.Seq.{take-length}
 use Rattle.vc_base.specs.declared.Stamp.{Stamp}

@@ -1,24 +1,24 @@
 -- What an event does to an open slot that is sound: a case for each way in which a call, a claim or a finish can go.
-use Rattle.std.proofs.Common.{ℕ, ◌≡◌, ◌≤◌, ◌+◌, ◌==◌, nat_lt, Bool, true, false, not, cond, ◌&&◌, ◌||◌, is_none, is_some, Option, Some, None, List, [], ◌∷◌, ◌++◌, length, refl, sym, ap, ◌∙◌, subst, arith, ◌⊎◌, inl, inr, ⊎_elim}
-use Rattle.std.proofs.lemmas.Bool.{false≢true, le-ltb, ltb-false, lt-ltb, ltb-true}
+use Rattle.std.proofs.Common.{ℕ, ◌≡◌, ◌≤◌, ◌+◌, ◌==◌, nat_lt, Bool, true, false, not, cond, ◌&&◌, ◌||◌, is_none, Option, Some, None, List, [], ◌∷◌, ◌++◌, length, refl, sym, ap, ◌∙◌, subst, arith, ⊎_elim}
+use Rattle.std.proofs.lemmas.Bool.{false≢true, lt-ltb, ltb-true}
 use Rattle.vc_base.specs.declared.Stamp.{Stamp}
 use Rattle.vc_base.specs.declared.Kind.{Kind}
 use Rattle.vc_base.specs.declared.Kind.TheVariants.{Copy, Enc, Dec}
 use Rattle.vc_base.specs.declared.Call.{Call}
 use Rattle.vc_base.specs.declared.Reply.{Reply}
-use Rattle.vc_base.specs.Buffers.{Buffer, QueueState, is_empty, lend_front, lend_after, give_back_from, retire_from, retire_after, last_flag, error_flag}
+use Rattle.vc_base.specs.Buffers.{Buffer, QueueState, is_empty, lend_front, lend_after, give_back_from, retire_from, last_flag, error_flag}
 use Rattle.vc_base.specs.Events.{EventState, raise_after, eos_event, source_change_event}
 use Rattle.vc_defs.specs.declared.Geometry.{Geometry}
 use Rattle.vc_defs.specs.Raw.{raw_of}
-use Rattle.vc_defs.specs.Decoder.{FrameResult, ResultKind, Picture, Damaged, Changed, DecodedStep, DecodedResult, picture, damaged, changed, spent, step_outcome, outcome_of, outcome_of_result}
+use Rattle.vc_defs.specs.Decoder.{FrameResult, ResultKind, Picture, Damaged, Changed, DecodedStep, changed, outcome_of, outcome_of_result}
 use Rattle.vc_defs.specs.Encoder.{EncodedFrame}
-use Rattle.vc_model.specs.Formats.{FormatPair, formats_found}
+use Rattle.vc_model.specs.Formats.{formats_found}
 use Rattle.vc_model.specs.Coder.{Coder, CodecState, encoder, decoder, reset}
-use Rattle.vc_model.specs.Context.{Context, Slot, Running, RunSort, copy, encode, decode, probe, drain, change, PhaseState, run, owe, last, stopped, is_dec, is_run, is_drained, has_before, raise_end, settle}
-use Rattle.vc_model.specs.Runs.{front_is_due, is_unknown, ready_for_probe, ready_for_run, is_claimable, sort_of, cap_after_claim, running_of, claim_front, after_claim, JobData, job_data, RunResult, copied, encoded, decoded, run_result, source_done, source_back, source_moved, dest_done, dest_back, type_flag, stop_by_change, decoded_effect, run_effect, fault_effect, after_finish, finish_word}
-use Rattle.vc_model.specs.Solo.{SoloEvent, Called, Claims, Finishes, SoloReply, Answered, Claimed, Finished, Nothing, solo_step, claim_step, finish_job, finish_step}
-use Rattle.vc_model.specs.Sound.{CountsUp, HasItsBuffers, dest_count, is_put_off, IsSettled, IsFirm, IsSound}
-use Rattle.vc_model.proofs.Tests.{and_left, and_right, and_both, not_true, not_false, or_cases}
+use Rattle.vc_model.specs.Context.{Context, Slot, Running, RunSort, copy, encode, decode, probe, drain, change, PhaseState, owe, last, is_dec, is_run, is_drained, has_before}
+use Rattle.vc_model.specs.Runs.{front_is_due, is_unknown, ready_for_probe, ready_for_run, is_claimable, sort_of, cap_after_claim, running_of, claim_front, after_claim, JobData, job_data, RunResult, copied, encoded, decoded, run_result, source_moved, dest_done, type_flag, decoded_effect, run_effect, fault_effect, after_finish, finish_word}
+use Rattle.vc_model.specs.Solo.{SoloEvent, Called, Claims, Finishes, SoloReply, Answered, Claimed, Finished, Nothing, solo_step, claim_step, finish_job}
+use Rattle.vc_model.specs.Sound.{CountsUp, HasItsBuffers, dest_count, IsSound}
+use Rattle.vc_model.proofs.Tests.{and_left, and_right, not_true, not_false, or_cases}
 use Rattle.vc_model.specs.Answer.{answer}
 use Rattle.vc_model.proofs.Firm.{without_job}
 use Rattle.vc_laws.proofs.Effects.{Settles, settle_is, Effect, effect_of}

@@ -1,9 +1,9 @@
 -- Facts that hold of an open context after every list of events, beside those of its soundness.
-use Rattle.std.proofs.Common.{ℕ, suc, cond, ◌≡◌, ◌≤◌, ◌<◌, ◌+◌, nat_lt, nat_le, Bool, true, false, not, ◌&&◌, ◌||◌, is_none, is_some, Option, Some, None, List, [], ◌∷◌, ◌++◌, length, refl, sym, ap, ◌∙◌, subst, arith}
+use Rattle.std.proofs.Common.{ℕ, suc, cond, ◌≡◌, ◌≤◌, ◌<◌, ◌+◌, nat_lt, Bool, true, false, ◌&&◌, Option, Some, None, List, [], ◌∷◌, ◌++◌, length, refl, sym, ap, ◌∙◌, subst, arith}
 use Rattle.std.specs.List.{list_all}
 use Rattle.std.proofs.lemmas.Bool.{false≢true, lt-ltb, ltb-true}
 use Rattle.std.proofs.lemmas.List.Folds.{list_all-append}
-use Rattle.vc_base.specs.declared.Side.TheVariants.{Out, Cap}
+use Rattle.vc_base.specs.declared.Side.TheVariants.{Cap}
 use Rattle.vc_base.specs.declared.Kind.{Kind}
 use Rattle.vc_base.specs.declared.Kind.TheVariants.{Copy, Enc, Dec}
 use Rattle.vc_base.specs.declared.Format.{Format}
@@ -11,18 +11,17 @@ use Rattle.vc_base.specs.declared.Call.{Call}
 use Rattle.vc_base.specs.declared.Call.TheVariants.{Open}
 use Rattle.vc_base.specs.declared.Reply.{Reply}
 use Rattle.vc_base.specs.Buffers.{Buffer, QueueState, buffer_count}
-use Rattle.vc_defs.specs.declared.Geometry.{Geometry}
 use Rattle.vc_model.specs.Formats.{FormatPair, formats_for}
 use Rattle.vc_model.specs.Coder.{Coder}
-use Rattle.vc_model.specs.Context.{Context, Slot, Running, Cause, drain, change, PhaseState, run, owe, last, stopped, fresh_context, is_enc, is_run, is_drained}
+use Rattle.vc_model.specs.Context.{Context, Slot, Running, Cause, drain, change, PhaseState, run, owe, last, stopped, fresh_context, is_enc, is_run}
 use Rattle.vc_model.specs.Answer.{is_stopped_by_drain, without_drain_stop, answer, closed_answer}
-use Rattle.vc_model.specs.Runs.{front_is_due, sort_of, run_format, running_of, JobData, job_data, RunResult}
+use Rattle.vc_model.specs.Runs.{front_is_due, sort_of, run_format, running_of, JobData, RunResult}
 use Rattle.vc_model.specs.Solo.{SoloEvent, Called, Claims, Finishes, SoloReply, solo_step, solo_slot}
 use Rattle.vc_model.specs.Sound.{CountsUp, HasItsBuffers, IsFirm, IsSound, IsSoundSlot}
 use Rattle.vc_model.proofs.Tests.{and_left, and_right}
 use Rattle.vc_model.proofs.Ending.{step_sound}
 use Rattle.vc_laws.proofs.Effects.{Settles, still, owes, gives, MarkAfterLast, Effect, stays, closes, has_events, has_rates, has_out_format, has_cap_format, has_out_buffers, has_cap_buffers, adds_out, adds_cap, queues_out, queues_cap, takes_out, takes_cap, takes_last, streams_out, streams_cap, stops_out, stops_cap, rests_cap, sets_mark, starts}
-use Rattle.vc_laws.proofs.Steps.{HasJob, Ends, alone, kept, ended, halts, spends, Returns, none_taken, given_back, ClaimsCap, probes, runs, Step, calls, rests, lacks_job, claims, finishes, faults, step_of}
+use Rattle.vc_laws.proofs.Steps.{Ends, alone, kept, ended, halts, spends, Returns, none_taken, given_back, ClaimsCap, probes, runs, Step, calls, rests, lacks_job, claims, finishes, faults, step_of}
 
 -- each of the buffers has a smaller sequence number
 abbrev pub AreBelow : ℕ → List Buffer → Type 0
@@ -127,6 +126,7 @@ job_before (b ∷ bs) ready first next u n e = lt-ltb b.ordinal next (before_nex
     up : (xs : List Buffer) (a z : ℕ) → CountsUp xs a z → a ≤ z
     up [] a z u = omega (arith, u)
     up (x ∷ xs) a z u = let h = up xs (a + 1) z u.1 in omega arith
+
     before_next : (xs : List Buffer) (a z m : ℕ) → m ≡ a → CountsUp xs (a + 1) z → m < z
     before_next xs a z m e u = let h = up xs (a + 1) z u in omega arith
 

@@ -1,27 +1,26 @@
 -- Where a decoder gives the LAST buffer of a drain, its runs consumed the sources before the mark, each whole and in order.
-use Rattle.std.proofs.Common.{ℕ, zero, suc, ◌≡◌, ◌≤◌, ◌<◌, ◌+◌, ◌==◌, min, nat_lt, Bool, true, false, not, cond, ◌&&◌, ◌||◌, is_none, Option, Some, None, List, [], ◌∷◌, ◌++◌, length, take, drop, map, refl, sym, ap, ◌∙◌, subst, arith, ◌⊎◌, inl, inr, ⊎_elim}
+use Rattle.std.proofs.Common.{ℕ, zero, suc, ◌≡◌, ◌≤◌, ◌+◌, ◌==◌, min, nat_lt, Bool, true, false, not, cond, ◌&&◌, ◌||◌, Option, Some, None, List, [], ◌∷◌, ◌++◌, length, take, drop, map, refl, sym, ap, ◌∙◌, subst, arith, ⊎_elim}
 use Rattle.std.specs.List.{filter, find, list_all, flat_map}
-use Rattle.std.proofs.lemmas.Bool.{false≢true, lt-ltb, ltb-true, eqb-true, eq-eqb}
+use Rattle.std.proofs.lemmas.Bool.{false≢true, lt-ltb, eqb-true}
 use Rattle.std.proofs.lemmas.List.{append-nil, append_assoc, map-append, take-append-drop}
 use Rattle.std.proofs.lemmas.List.Elements.{filter-append}
-use Rattle.std.proofs.lemmas.List.Folds.{list_all-append, list_any-append}
+use Rattle.std.proofs.lemmas.List.Folds.{list_all-append}
 use Rattle.std.proofs.lemmas.Grind.{flat_map-append}
 use Rattle.std.proofs.Math.Seq.{take-add, take-length, drop-append_seam}
 use Rattle.vc_base.specs.declared.Stamp.{Stamp}
-use Rattle.vc_base.specs.declared.Side.{Side}
-use Rattle.vc_base.specs.declared.Side.TheVariants.{Out, Cap}
+use Rattle.vc_base.specs.declared.Side.TheVariants.{Out}
 use Rattle.vc_base.specs.declared.Kind.{Kind}
-use Rattle.vc_base.specs.declared.Kind.TheVariants.{Copy, Enc, Dec}
+use Rattle.vc_base.specs.declared.Kind.TheVariants.{Dec}
 use Rattle.vc_base.specs.declared.Call.{Call}
-use Rattle.vc_base.specs.declared.Call.TheVariants.{Open, SetFmt, ReqBufs, CreateBufs, QBuf, DqBuf, StreamOn, StreamOff, SetCtrl, DecCmd, EncCmd}
+use Rattle.vc_base.specs.declared.Call.TheVariants.{Open, QBuf, DecCmd, EncCmd}
 use Rattle.vc_base.specs.declared.Reply.{Reply}
-use Rattle.vc_base.specs.declared.Reply.TheVariants.{Done, Fmt, Count, Created}
-use Rattle.vc_base.specs.Buffers.{Buffer, QueueState, lend_front, buffer_count, created, held_buffer, held_again, new_buffers, with_index, queued_buffer, queue_held, taken}
+use Rattle.vc_base.specs.declared.Reply.TheVariants.{Done}
+use Rattle.vc_base.specs.Buffers.{Buffer, QueueState, lend_front, buffer_count, created, held_again, new_buffers, with_index, queued_buffer, queue_held}
 use Rattle.vc_defs.specs.Decoder.{FrameResult, DecodedStep}
 use Rattle.vc_model.specs.Coder.{Coder, CodecState, no_codec, encoder, decoder}
 use Rattle.vc_model.specs.Context.{Context, Slot, Running, RunSort, copy, encode, decode, probe, Cause, drain, change, PhaseState, run, owe, last, stopped, fresh_context, is_dec, is_enc, is_run, is_drained, has_before}
 use Rattle.vc_model.specs.Answer.{answer, closed_answer, mark_after_restart}
-use Rattle.vc_model.specs.Runs.{front_is_due, running_of, sort_of, source_of, JobData, job_data, RunResult, copied, encoded, decoded, run_result, run_of, decode_run}
+use Rattle.vc_model.specs.Runs.{front_is_due, running_of, sort_of, source_of, JobData, job_data, RunResult, decoded, run_result, run_of, decode_run}
 use Rattle.vc_model.specs.Solo.{SoloEvent, Called, Claims, Finishes, SoloReply, Answered, Claimed, Finished, solo_step, solo_run, solo_slot}
 use Rattle.vc_model.specs.Places.{is_honest_call, is_honest, AreHonest}
 use Rattle.vc_model.specs.Sound.{CountsUp, HasCodec, IsPast, IsFirm, IsSound, IsSoundSlot, is_at_end}
@@ -29,12 +28,12 @@ use Rattle.vc_model.specs.Drains.{is_last_by_drain, gives_last, done_now}
 use Rattle.vc_model.proofs.Tests.{and_left, and_right, and_both, not_true, or_cases}
 use Rattle.vc_model.proofs.Firm.{idle}
 use Rattle.vc_model.proofs.Ending.{always_sound, step_sound}
-use Rattle.vc_laws.specs.Segments.{Segment, fresh_segment, consumed, after_decode, after_run, segment_of_step, segment_of_slots, segment_step, segment_after, segment_of, call_resets}
-use Rattle.vc_laws.specs.Drains.{is_stop_call, bytes_before, before_mark, IsWholeDrain, DrainsAreWhole}
+use Rattle.vc_laws.specs.Segments.{Segment, fresh_segment, consumed, after_run, segment_of_step, segment_of_slots, segment_step, segment_of, call_resets}
+use Rattle.vc_laws.specs.Drains.{is_stop_call, before_mark, IsWholeDrain, DrainsAreWhole}
 use Rattle.vc_laws.proofs.Effects.{is_command, Settles, still, owes, gives, MarkAfterLast, Effect, stays, closes, has_events, has_rates, has_out_format, has_cap_format, has_out_buffers, has_cap_buffers, adds_out, adds_cap, queues_out, queues_cap, takes_out, takes_cap, takes_last, streams_out, streams_cap, stops_out, stops_cap, rests_cap, sets_mark, starts, queued_ordinal}
 use Rattle.vc_laws.proofs.Steps.{done_out, back_out, moved_out, HasJob, Puts, puts_fault, puts_copy, puts_frame, puts_picture, puts_damage, Ends, alone, kept, ended, halts, spends, Step, calls, rests, lacks_job, claims, finishes, faults, step_of}
 use Rattle.vc_laws.proofs.Tidy.{always_tidy, IsTidy, IsRunOf, HasRun, TidySlot, KindSlot, step_kind}
-use Rattle.vc_laws.proofs.Segmenting.{slot_more, segment_more, open_step, adds_none, goes_on, begins_anew, finished_segment, nothing_segment, holds_if_honest}
+use Rattle.vc_laws.proofs.Segmenting.{segment_more, adds_none, goes_on, begins_anew, finished_segment, nothing_segment, holds_if_honest}
 
 -- the buffer as it was queued
 abbrev pub as_queued : Buffer → Buffer
@@ -443,6 +442,7 @@ decoder_runs coder c r k t h = by_codec c.codec refl (subst (λ q. HasCodec q c.
     by_sort j state encode (Some g) e q = absurd (cc)
     by_sort j state decode g e q = ap (decode_run coder j) e
     by_sort j state probe g e q = ap (decode_run coder j) e
+
     by_codec : (codec : CodecState) → c.codec ≡ codec → HasCodec Dec codec → (step : DecodedStep) × (run_result coder (job_data c r) ≡ decoded step)
     by_codec no_codec e q = absurd q
     by_codec (encoder state) e q = absurd q

@@ -1,5 +1,5 @@
 -- Drains: from the STOP that sets the mark to the LAST buffer that is dequeued; and changes of the resolution.
-use Rattle.std.specs.Prelude.{ℕ, ◌≡◌, ◌⊎◌, ◌+◌, ◌<◌, ◌==◌, Bool, true, false, not, ◌&&◌, ◌||◌, if◌then◌else◌, nat_lt, bit_and, codes, is_none, is_some, Option, Some, None, List, [], ◌∷◌, ◌++◌, map}
+use Rattle.std.specs.Prelude.{ℕ, ◌≡◌, ◌⊎◌, ◌+◌, ◌==◌, Bool, true, false, not, ◌&&◌, ◌||◌, nat_lt, bit_and, codes, is_none, is_some, Option, Some, None, List, [], ◌∷◌, ◌++◌}
 use Rattle.std.specs.List.{filter, flat_map}
 use Rattle.vc_base.specs.declared.Side.TheVariants.{Cap}
 use Rattle.vc_base.specs.declared.Kind.TheVariants.{Dec}
@@ -8,13 +8,13 @@ use Rattle.vc_base.specs.declared.Call.{Call}
 use Rattle.vc_base.specs.declared.Call.TheVariants.{DqBuf, DecCmd, EncCmd}
 use Rattle.vc_base.specs.declared.Reply.{Reply}
 use Rattle.vc_base.specs.declared.Reply.TheVariants.{Done, Refused}
-use Rattle.vc_base.specs.Buffers.{Buffer, last_flag, zero_stamp}
+use Rattle.vc_base.specs.Buffers.{Buffer, last_flag}
 use Rattle.vc_defs.specs.Decoder.{FrameResult}
 use Rattle.vc_model.specs.Coder.{Coder, the_coder}
 use Rattle.vc_model.specs.Context.{Context, Slot, Running, PhaseState, run, owe, last, stopped, is_run, is_stopped, is_drain}
 use Rattle.vc_model.specs.Answer.{answer}
 use Rattle.vc_model.specs.Places.{AreHonest}
-use Rattle.vc_model.specs.Sound.{CountsUp, is_last, stops_by_change}
+use Rattle.vc_model.specs.Sound.{CountsUp, stops_by_change}
 use Rattle.vc_model.specs.Soundness.{AtEveryMoment}
 use Rattle.vc_model.specs.Solo.{SoloEvent, Called, Finishes, SoloReply, Answered, Finished, solo_step, solo_run, solo_slot}
 use Rattle.vc_model.specs.Drains.{AtEveryStep, is_last_by_drain, gives_last, takes_capture, done_now}

@@ -1,15 +1,14 @@
 -- What the runs of a segment gave is what the sequential codec gives for what they consumed.
-use Rattle.std.specs.Prelude.{ℕ, ◌≡◌, ◌⊎◌, ◌+◌, ◌==◌, Bool, true, false, not, get_or, map, length, Option, Some, None, List, [], ◌∷◌, ◌++◌}
+use Rattle.std.specs.Prelude.{ℕ, ◌≡◌, ◌⊎◌, ◌+◌, ◌==◌, Bool, true, false, not, get_or, map, length, Some, None, List, [], ◌∷◌, ◌++◌}
 use Rattle.std.specs.List.{filter, All}
 use Rattle.vc_base.specs.declared.Kind.TheVariants.{Enc, Dec}
 use Rattle.vc_base.specs.declared.Format.{Format}
-use Rattle.vc_base.specs.declared.Stamp.{Stamp}
 use Rattle.vc_base.specs.Buffers.{Buffer, last_flag, error_flag, zero_stamp}
 use Rattle.vc_defs.specs.declared.Geometry.{Geometry}
 use Rattle.vc_defs.specs.Raw.{layout_of, planes_of, raw_of}
 use Rattle.vc_defs.specs.Decoder.{FrameResult, ResultKind, Picture, Damaged, Changed, results}
 use Rattle.vc_defs.specs.Encoder.{RunRates, Encoded, encoded, encoded_bytes}
-use Rattle.vc_model.specs.Coder.{Coder, the_coder}
+use Rattle.vc_model.specs.Coder.{the_coder}
 use Rattle.vc_model.specs.Context.{Context, Running}
 use Rattle.vc_model.specs.Runs.{type_flag}
 use Rattle.vc_model.specs.Solo.{SoloEvent, solo_slot}
