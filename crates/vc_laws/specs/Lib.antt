@@ -1,0 +1,3 @@
+pub mod Drains
+pub mod Following
+pub mod Segments

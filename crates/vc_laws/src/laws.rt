@@ -1,0 +1,89 @@
+//! Laws over the runs of one slot, proved from the definitions alone.
+
+ghost use Rattle.vc_laws.specs.Drains.{DrainsBeginAtStop, MarksStay, LastIsTold, NothingAfterLast, AllWentBack, EndedQueueRefuses, StopsByChange, ChangesStop, DrainsAreWhole, DrainsGiveAll, FrameAfterChange, SameDrainsSameResults};
+ghost use Rattle.vc_laws.specs.Following.{EncoderFollows, Follows, SegmentsBegin, RetiredAreResults};
+ghost use Rattle.vc_defs.specs.Laws.{Resuming};
+
+/// A drain begins at a STOP alone, and its mark is the number of OUTPUT buffers queued before it.
+pub fn drains_begin_at_stop()
+    ensures { DrainsBeginAtStop }
+{}
+
+/// Until it is removed a mark stays as it was set.
+pub fn marks_stay()
+    ensures { MarksStay }
+{}
+
+/// LAST is told by the flag of exactly one buffer, the final one that goes to done in the step that gives it.
+pub fn last_is_told()
+    ensures { LastIsTold }
+{}
+
+/// After the LAST buffer of a drain no CAPTURE buffer goes to done before the phase is Run again.
+pub fn nothing_after_last()
+    ensures { NothingAfterLast }
+{}
+
+/// Where the LAST buffer of a drain is given no job is left, and it is the latest that went to done.
+pub fn all_went_back()
+    ensures { AllWentBack }
+{}
+
+/// After the LAST buffer was taken DqBuf on CAPTURE answers EPIPE.
+pub fn ended_queue_refuses()
+    ensures { EndedQueueRefuses }
+{}
+
+/// While a decoder stops by a change no CAPTURE buffer goes to done but one empty LAST buffer.
+pub fn stops_by_change()
+    ensures { StopsByChange }
+{}
+
+/// A run that finds a change, while CAPTURE streams, begins such a stop.
+pub fn changes_stop()
+    ensures { ChangesStop }
+{}
+
+/// Where a decoder gives the LAST buffer of a drain, its runs consumed the sources before the mark, each whole and in order.
+pub fn drains_are_whole()
+    ensures { DrainsAreWhole }
+{}
+
+/// The frames of an encoder's segment are those of the sequential encoder for the pictures that its runs consumed.
+pub fn encoder_follows()
+    ensures { EncoderFollows }
+{}
+
+/// The CAPTURE buffers that a decoder's runs put on done are the segment's results other than changes, one for one.
+pub fn retired_are_results()
+    ensures { RetiredAreResults }
+{}
+
+/// Before the first run of a segment it has neither bytes nor results.
+pub fn segments_begin()
+    ensures { SegmentsBegin }
+{}
+
+/// The results of a decoder's segment are the sequential decoder's for the bytes that its runs consumed. This is
+/// conditional: it rests on the law of resuming of the coded format, which it takes as a premise.
+pub fn follows_if_resuming()
+    ensures { Resuming → Follows }
+{}
+
+/// Where a decoder gives the LAST buffer of a drain, all results of the segment's bytes were given. This is conditional:
+/// it rests on the law of resuming of the coded format, which it takes as a premise.
+pub fn drains_give_all_if_resuming()
+    ensures { Resuming → DrainsGiveAll }
+{}
+
+/// The next result of a segment after a change is that of the frame that raised it. This is conditional: it rests on the
+/// law of resuming of the coded format, which it takes as a premise.
+pub fn frame_after_change_if_resuming()
+    ensures { Resuming → FrameAfterChange }
+{}
+
+/// Neither schedule nor cutting matters to a finished drain. This is conditional: it rests on the law of resuming of the
+/// coded format, which it takes as a premise.
+pub fn same_drains_if_resuming()
+    ensures { Resuming → SameDrainsSameResults }
+{}
