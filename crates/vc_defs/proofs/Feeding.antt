@@ -38,7 +38,7 @@ neat_of m [] None o = tt
 neat_of m [] (Some f) o = (tt, tt)
 neat_of m (f ∷ fs) u o = (o.1, (order_after f.known f.known fs u o.2 (omega arith), o.1, neat_of f.known fs u o.2))
 
-neat_drop : (n : ℕ) (fs : List Find) → Neat fs → Neat (drop n fs)
+pub neat_drop : (n : ℕ) (fs : List Find) → Neat fs → Neat (drop n fs)
 neat_drop zero fs h = h
 neat_drop (suc n) [] h = tt
 neat_drop (suc n) (Head position g ∷ fs) h = neat_drop n fs h.1
@@ -48,7 +48,7 @@ pub all_neat : (limit : ℕ) (xs : List ℕ) → Neat (finds xs limit)
 unfolding finds places
 all_neat limit xs = neat_of 0 (places xs limit).frames (places xs limit).unfinished (in_order (length xs + 1) limit 0 xs 0 (λ at e. omega arith))
 
-neat_known : (f : Find) (fs : List Find) → Neat (f ∷ fs) → position_of f + 44 ≤ known_at f
+pub neat_known : (f : Find) (fs : List Find) → Neat (f ∷ fs) → position_of f + 44 ≤ known_at f
 neat_known (Head position h) fs n = omega arith
 neat_known (Ended f) fs n = n.1
 
