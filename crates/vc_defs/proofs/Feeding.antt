@@ -1,25 +1,22 @@
 -- Fed piece by piece, bytes tell their finds in order, each as soon as it is known.
-use Rattle.std.proofs.Common.{◌≡◌, ◌∙◌, sym, ap, refl, subst, ℕ, suc, zero, ◌+◌, ◌-◌, ◌%◌, ◌<◌, ◌≤◌, inl, inr, List, [], ◌∷◌, ◌++◌, length, take, drop, map, replicate, arith, append_assoc, length-append, length-drop, length-take}
-use Rattle.std.specs.Prelude.{◌⊎◌, ◌↔◌, Bool, true, false, nat_le, cond, option_map}
+use Rattle.std.proofs.Common.{◌≡◌, ◌∙◌, sym, ap, refl, subst, ℕ, suc, zero, ◌+◌, ◌-◌, ◌%◌, ◌<◌, ◌≤◌, inl, inr, List, [], ◌∷◌, ◌++◌, length, take, drop, map, replicate, arith, append_assoc, length-append, length-drop}
+use Rattle.std.specs.Prelude.{◌⊎◌, ◌↔◌, Bool, true, false, nat_le, cond}
 use Rattle.std.specs.List.{All}
 use Rattle.std.specs.declared.option.Option.{Option}
 use Rattle.std.specs.declared.option.Option.TheVariants.{Some, None}
 use Rattle.std.proofs.lemmas.Bool.{cond-true, cond-false}
 use Rattle.std.proofs.lemmas.Bool.Decides.{nat_tests}
-use Rattle.std.proofs.lemmas.List.{take_all, take-append-drop, take-append-le, drop-append-le, append-nil, length-take-le, drop-drop}
+use Rattle.std.proofs.lemmas.List.{take_all, take-append-drop, drop-append-le, length-take-le, drop-drop}
 use Rattle.std.proofs.Math.Seq.{take-append-add}
-use Rattle.std.proofs.lemmas.List.Elements.{All-nil, All-cons, All-head, All-tail, All-append, All-drop}
+use Rattle.std.proofs.lemmas.List.Elements.{All-nil, All-cons, All-head, All-tail, All-drop}
 use Rattle.vc_base.specs.declared.Stamp.{Stamp}
-use Rattle.vc_base.specs.Buffers.{zero_stamp}
-use Rattle.vc_defs.specs.declared.Header.{Header}
-use Rattle.vc_defs.specs.Places.{Frame, OpenFrame, Places, places_from, places}
+use Rattle.vc_defs.specs.Places.{Frame, OpenFrame, places}
 use Rattle.vc_defs.specs.Finds.{Find, Head, Ended, position_of, known_at, finds_in, finds, moved_find, KeptBytes, stamp_in, kept_with, kept_before, FedStep, fed_by, told_of_tail, fed}
 use Rattle.vc_defs.specs.Laws.{kept_at, IsEndAt, IsTold, TellsFind, told_after, Feeding}
 use Rattle.vc_defs.proofs.Pictures.{all_weaker}
-use Rattle.vc_defs.proofs.Ordering.{InOrder, AreInOrder, in_order, AllAfter, order_after, finds_of, finds_stay}
+use Rattle.vc_defs.proofs.Ordering.{InOrder, in_order, AllAfter, order_after, finds_stay}
 use Rattle.vc_defs.proofs.ResultOrder.{all_inside}
-use Rattle.vc_defs.proofs.Splitting.{Heads}
-use Rattle.vc_defs.proofs.Kept.{known_moved, position_moved, Short, Told, Point, point_of, Pending, late_there, first_find, finds_here, kept_is, IsStamped, Reach, reach_of, top_short, stamps_with, stamps_alone, stamp_is, kept_again}
+use Rattle.vc_defs.proofs.Kept.{known_moved, position_moved, Point, point_of, Pending, late_there, first_find, finds_here, kept_is, IsStamped, Reach, reach_of, top_short, stamps_with, stamps_alone, stamp_is, kept_again}
 
 -- what can come behind a header
 abbrev pub AfterHead : ℕ → List Find → Type 0

@@ -1,27 +1,25 @@
 -- The bytes that are kept: what follows is found from them on as from the first byte on.
-use Rattle.std.proofs.Common.{◌≡◌, ◌∙◌, sym, ap, refl, subst, ℕ, suc, zero, ◌+◌, ◌-◌, ◌%◌, ◌<◌, ◌≤◌, inl, inr, List, [], ◌∷◌, ◌++◌, length, take, drop, get_or, map, replicate, arith, append_assoc, add-zero, length-append, length-drop}
+use Rattle.std.proofs.Common.{◌≡◌, ◌∙◌, sym, ap, refl, subst, ℕ, suc, zero, ◌+◌, ◌-◌, ◌%◌, ◌<◌, ◌≤◌, inl, inr, List, [], ◌∷◌, ◌++◌, length, drop, get_or, map, replicate, arith, add-zero, length-append, length-drop}
 use Rattle.std.specs.Prelude.{◌⊎◌, Bool, true, false, nat_eq, nat_le, nat_lt, min, cond}
-use Rattle.std.specs.List.{range_with_len, All}
+use Rattle.std.specs.List.{All}
 use Rattle.std.specs.declared.option.Option.{Option}
 use Rattle.std.specs.declared.option.Option.TheVariants.{Some, None}
-use Rattle.std.proofs.lemmas.Bool.{cond-true, cond-false, cases_lt, cases_eq}
+use Rattle.std.proofs.lemmas.Bool.{cond-true, cases_lt, cases_eq}
 use Rattle.std.proofs.lemmas.Bool.Decides.{nat_tests}
 use Rattle.std.proofs.lemmas.List.{drop-append-le, drop-drop, append-nil, get_or-append_right, get_or_append_left, get_or-replicate, ext_get_or}
 use Rattle.std.specs.List.{drop-map}
 use Rattle.std.proofs.lemmas.List.FromFn.{length-map-range_with_len, get_or-map-range_with_len}
-use Rattle.std.proofs.lemmas.List.Elements.{All-nil, All-cons, All-head, All-tail, All-append, All-map, All-drop}
+use Rattle.std.proofs.lemmas.List.Elements.{All-nil, All-cons, All-head, All-tail, All-append, All-drop}
 use Rattle.vc_base.specs.declared.Stamp.{Stamp}
 use Rattle.vc_base.specs.Buffers.{zero_stamp}
 use Rattle.vc_defs.specs.declared.Header.{Header}
-use Rattle.vc_defs.specs.Places.{Frame, OpenFrame, Places, joined, places_from, places, moved_frame, moved_open, moved_places}
-use Rattle.vc_defs.specs.Finds.{Find, Head, Ended, position_of, known_at, finds_unfinished, finds_in, finds, moved_find, KeptBytes, stamp_in, first_of_tail, last_of_tail, kept_with, kept_before}
+use Rattle.vc_defs.specs.Places.{Frame, OpenFrame, Places, places_from, places, moved_frame, moved_open, moved_places}
+use Rattle.vc_defs.specs.Finds.{Find, Head, Ended, position_of, known_at, finds_unfinished, finds_in, finds, moved_find, stamp_in, first_of_tail, last_of_tail, kept_with, kept_before}
 use Rattle.vc_defs.proofs.Pictures.{all_weaker}
-use Rattle.vc_defs.proofs.Parsing.{some_same}
-use Rattle.vc_defs.proofs.ParsingPlanes.{all_behind}
 use Rattle.vc_defs.proofs.Continuing.{many_turns, places_moved, tail_short}
-use Rattle.vc_defs.proofs.Ordering.{InOrder, AreInOrder, in_order, AllAfter, order_after, finds_of, finds_stay}
+use Rattle.vc_defs.proofs.Ordering.{InOrder, in_order, AllAfter, order_after, finds_of, finds_stay}
 use Rattle.vc_defs.proofs.ResultOrder.{all_inside}
-use Rattle.vc_defs.proofs.Splitting.{Heads, heads_more, HeadsPlaces, heads_places, Stop, Begun, where_is}
+use Rattle.vc_defs.proofs.Splitting.{Heads, heads_more, HeadsPlaces, heads_places, Stop, where_is}
 
 -- finds counted from earlier on
 moved_in : (k : ℕ) (fs : List Frame) (u : Option OpenFrame) → finds_in (map (moved_frame k) fs) (moved_open k u) ≡ map (moved_find k) (finds_in fs u)
@@ -198,7 +196,7 @@ order_positions m n (f ∷ fs) u o h =
 all_positions : (n : ℕ) (fs : List Find) → n ≤ 44 → All (λ f. IsStamped n (position_of f)) fs
 all_positions n [] h = All-nil (λ f. IsStamped n (position_of f))
 all_positions n (f ∷ fs) h =
-    All-cons (λ f. IsStamped n (position_of f)) f fs (elim (cases_eq (position_of f) 0) [ | inl e ↦ inl e | inr ne ↦ inr (omega arith) ]) (all_positions n fs h)
+    All-cons (λ f. IsStamped n (position_of f)) f fs (elim (cases_eq (position_of f) 0) [ inl e ↦ inl e | inr ne ↦ inr (omega arith) ]) (all_positions n fs h)
 
 -- All finds from the kept bytes on, and what is kept behind them, begin where stamps are kept.
 pub record Reach (limit : ℕ) (kept more : List ℕ) : Type 0 where
@@ -212,7 +210,7 @@ top_short limit xs = tail_short (length xs + 1) limit 0 xs
 reach_small : (limit : ℕ) (kept more : List ℕ) → length kept ≤ 44 → Reach limit kept more
 reach_small limit kept more h = record {
   positions = all_positions (length kept) (finds (kept ++ more) limit) h;
-  tail = elim (cases_lt (length (places (kept ++ more) limit).tail) (length (kept ++ more))) [ | inl l ↦ inr (omega arith) | inr l ↦ let short : length (places (kept ++ more) limit).tail ≤ length (kept ++ more) = top_short limit (kept ++ more) in inl (omega arith) ];
+  tail = elim (cases_lt (length (places (kept ++ more) limit).tail) (length (kept ++ more))) [ inl l ↦ inr (omega arith) | inr l ↦ let short : length (places (kept ++ more) limit).tail ≤ length (kept ++ more) = top_short limit (kept ++ more) in inl (omega arith) ];
 }
 
 reach_told : (limit : ℕ) (kept more : List ℕ) (h : Header) → Heads limit kept h → All (λ f. length kept ≤ known_at f) (drop 1 (finds (kept ++ more) limit)) → Reach limit kept more
@@ -400,7 +398,7 @@ kept_again stamps stamp tail at n end new long short low high reach =
     first zero h r = refl
     first (suc k) h r =
         let i : at + (end - suc k) ≡ at + end - suc k = omega arith in
-        stamp_is stamps stamp tail at n (end - suc k) long (elim r [ | inl e ↦ inl (omega arith) | inr e ↦ inr (omega arith) ]) (omega arith)
+        stamp_is stamps stamp tail at n (end - suc k) long (elim r [ inl e ↦ inl (omega arith) | inr e ↦ inr (omega arith) ]) (omega arith)
         ∙ ap (stamps_with stamps stamp n) i
 
     at_place : (k : ℕ) → k < count → get_or (last_of_tail old end (length new)) k zero_stamp ≡ get_or (last_of_tail (stamps_with stamps stamp n) (at + end) (length new)) k zero_stamp

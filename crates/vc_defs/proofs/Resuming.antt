@@ -1,6 +1,6 @@
 -- From the state that stands after bytes, a run over more gives what comes next of all of them.
-use Rattle.std.proofs.Common.{◌≡◌, ◌∙◌, sym, ap, refl, subst, ℕ, suc, zero, ◌+◌, ◌-◌, ◌<◌, ◌≤◌, inl, inr, List, [], ◌∷◌, ◌++◌, length, take, drop, map, replicate, arith, append_assoc, length-append, length-drop, length-take}
-use Rattle.std.specs.Prelude.{◌⊎◌, Bool, true, false, ◌&&◌, not, nat_eq, nat_le, cond, option_map}
+use Rattle.std.proofs.Common.{◌≡◌, ◌∙◌, sym, ap, refl, subst, ℕ, suc, zero, ◌+◌, ◌-◌, ◌<◌, ◌≤◌, inl, inr, List, [], ◌∷◌, ◌++◌, length, take, drop, map, replicate, arith, append_assoc, length-append, length-drop}
+use Rattle.std.specs.Prelude.{◌⊎◌, Bool, true, false, ◌&&◌, not, nat_eq, nat_le, cond}
 use Rattle.std.specs.List.{All}
 use Rattle.std.specs.declared.option.Option.{Option}
 use Rattle.std.specs.declared.option.Option.TheVariants.{Some, None}
@@ -8,25 +8,24 @@ use Rattle.std.proofs.lemmas.Bool.{cond-true, cond-false}
 use Rattle.std.proofs.lemmas.Bool.Decides.{nat_tests}
 use Rattle.std.proofs.lemmas.List.{take_all, take_at, drop_at, take-append-drop, take-append-le, drop-append-le, drop-drop, append-nil, length-take-le, map-append}
 use Rattle.std.proofs.Math.Seq.{take-append-add}
-use Rattle.std.proofs.lemmas.List.Elements.{All-nil, All-cons, All-head, All-tail, All-append, All-drop}
+use Rattle.std.proofs.lemmas.List.Elements.{All-nil, All-cons, All-head, All-tail, All-append}
 use Rattle.vc_base.specs.declared.Stamp.{Stamp}
-use Rattle.vc_base.specs.Buffers.{zero_stamp}
 use Rattle.vc_defs.specs.declared.Layout.{Layout}
 use Rattle.vc_defs.specs.declared.Layout.TheVariants.{Grey, C420, C422}
 use Rattle.vc_defs.specs.declared.Geometry.{Geometry}
 use Rattle.vc_defs.specs.declared.Header.{Header}
-use Rattle.vc_defs.specs.Places.{Frame, OpenFrame, Places, places, moved_frame}
+use Rattle.vc_defs.specs.Places.{Frame, places, moved_frame}
 use Rattle.vc_defs.specs.Finds.{Find, Head, Ended, position_of, known_at, finds, moved_find, KeptBytes, stamp_in, kept_with, kept_before}
-use Rattle.vc_defs.specs.Decoder.{FrameResult, ResultKind, Picture, Damaged, Changed, GivenResult, BetweenFrames, ReferenceState, same_layout, same_geometry, is_present, is_change, is_passed_over, picture_planes, present_after_header, given_at_header, given_by, given_at_end, given_by_find, given_by_finds, present_after, moved_result, moved_given, given_in, results, DecoderState, DecodedStep, kept_bytes, stamp_at, state_with, kept_of, geometry_after_kind, geometry_after, decoded_by, decode}
-use Rattle.vc_defs.specs.Laws.{from_start, reached, state_at, IsReached, TellsNext, given_after, Resuming, IsKnownRight, IsNext, IsNextIfAny, AreOrdered}
+use Rattle.vc_defs.specs.Decoder.{FrameResult, ResultKind, Picture, Damaged, Changed, GivenResult, BetweenFrames, ReferenceState, same_layout, same_geometry, is_change, is_passed_over, picture_planes, present_after_header, given_at_header, given_by, given_at_end, given_by_find, given_by_finds, present_after, moved_given, given_in, results, DecoderState, DecodedStep, state_with, kept_of, geometry_after_kind, geometry_after, decoded_by, decode}
+use Rattle.vc_defs.specs.Laws.{from_start, reached, state_at, IsReached, TellsNext, given_after, Resuming, IsKnownRight, IsNext, AreOrdered}
 use Rattle.vc_defs.proofs.Pictures.{all_weaker}
 use Rattle.vc_defs.proofs.Following.{present_append}
 use Rattle.vc_defs.proofs.ByFinds.{after_header, results_are_of_finds}
-use Rattle.vc_defs.proofs.Ordering.{AllAfter, finds_stay}
+use Rattle.vc_defs.proofs.Ordering.{finds_stay}
 use Rattle.vc_defs.proofs.ResultOrder.{just_results, results_are_ordered, by_finds_append, all_of_finds, results_stay, results_are_inside}
-use Rattle.vc_defs.proofs.Splitting.{Heads, heads_more}
-use Rattle.vc_defs.proofs.Kept.{known_moved, position_moved, Short, Told, Point, point_of, Pending, late_there, first_find, kept_is, IsStamped, Reach, reach_of, top_short, stamps_with, stamps_alone, stamp_is, kept_again}
-use Rattle.vc_defs.proofs.Feeding.{AfterHead, Neat, all_neat, neat_drop, goes_on_at}
+use Rattle.vc_defs.proofs.Splitting.{heads_more}
+use Rattle.vc_defs.proofs.Kept.{Told, Point, point_of, Pending, late_there, first_find, kept_is, IsStamped, Reach, reach_of, top_short, stamps_with, stamps_alone, stamp_is, kept_again}
+use Rattle.vc_defs.proofs.Feeding.{Neat, all_neat, neat_drop, goes_on_at}
 
 -- Section: finds and the results that they give.
 
@@ -358,7 +357,7 @@ ordered_after r (s ∷ rs) o =
     All-cons (λ (s : FrameResult). r.known ≤ s.known) s rs step (all_weaker (λ (t : FrameResult). s.known ≤ t.known) (λ (t : FrameResult). r.known ≤ t.known) rs (λ t k. omega arith) (ordered_after s rs o.2))
   where
     next_later : (kind : ResultKind) → IsNext kind r.position r.known s → r.known ≤ s.known
-    next_later (Changed g) n = elim n.2 [ | inl h ↦ omega arith | inr h ↦ omega (arith, h.0) ]
+    next_later (Changed g) n = elim n.2 [ inl h ↦ omega arith | inr h ↦ omega (arith, h.0) ]
     next_later Damaged n = omega (arith, n)
     next_later (Picture g key planes) n = omega (arith, n)
 

@@ -1,22 +1,18 @@
 -- Where bytes can be cut so that the places of what follows are counted from there.
-use Rattle.std.proofs.Common.{◌≡◌, ◌∙◌, sym, ap, refl, subst, ℕ, suc, zero, ◌+◌, ◌-◌, ◌%◌, ◌<◌, ◌≤◌, inl, inr, List, [], ◌∷◌, ◌++◌, length, take, drop, map, arith, append_assoc, add-zero, length-append, length-drop}
+use Rattle.std.proofs.Common.{◌≡◌, ◌∙◌, sym, ap, refl, subst, ℕ, suc, zero, ◌+◌, ◌-◌, ◌%◌, ◌<◌, ◌≤◌, inl, inr, List, [], ◌∷◌, ◌++◌, length, take, drop, arith, append_assoc, length-append, length-drop}
 use Rattle.std.specs.Prelude.{◌⊎◌, Bool, true, false, nat_le, nat_lt, cond}
-use Rattle.std.specs.List.{All}
 use Rattle.std.specs.declared.option.Option.{Option}
 use Rattle.std.specs.declared.option.Option.TheVariants.{Some, None}
-use Rattle.std.proofs.lemmas.Option.{none-some}
 use Rattle.std.proofs.lemmas.Bool.{cond-true, cond-false}
 use Rattle.std.proofs.lemmas.Bool.Decides.{nat_tests}
 use Rattle.std.proofs.lemmas.List.{take-append-le, drop-append-le, drop-drop, append-nil}
-use Rattle.std.proofs.lemmas.List.Elements.{All-nil, All-cons}
 use Rattle.vc_defs.specs.declared.Header.{Header}
 use Rattle.vc_defs.specs.Headers.{header_from}
-use Rattle.vc_defs.specs.Places.{one_further, first_magic, Look, nothing, begun, no_header, unended, cut, whole, look_behind, look_at_header, look_at, look_from, look, cursor_after, start_of_magic, Frame, OpenFrame, Places, joined, frames_at, left_at, places_at, places_from, places, moved_frame, moved_open, moved_places}
-use Rattle.vc_defs.specs.Finds.{Find, Head, Ended, position_of, known_at, finds_unfinished, finds_in, finds, moved_find}
-use Rattle.vc_defs.proofs.Looking.{is_magic, is_start, is_magic_front, magic_stays, magic_inside, look_stays, not_true}
-use Rattle.vc_defs.proofs.Continuing.{Skips, Moves, look_moves, at_known, more_turns, many_turns, places_moved, places_shifted, tail_short, skips_to_magic, skips_to_start, not_start_long}
+use Rattle.vc_defs.specs.Places.{one_further, first_magic, Look, nothing, begun, no_header, unended, cut, whole, look_behind, look_at_header, look_from, look, cursor_after, start_of_magic, Frame, Places, joined, frames_at, places_at, places_from}
+use Rattle.vc_defs.proofs.Looking.{is_magic, is_start, magic_stays, magic_inside, look_stays}
+use Rattle.vc_defs.proofs.Continuing.{Skips, Moves, look_moves, at_known, more_turns, places_shifted, tail_short, skips_to_magic, skips_to_start, not_start_long}
 use Rattle.vc_defs.proofs.InnerMagic.{magic_there}
-use Rattle.vc_defs.proofs.Ordering.{Seen, seen, finds_of, finds_append}
+use Rattle.vc_defs.proofs.Ordering.{Seen, seen, finds_of}
 
 -- a legal header stands at the front of bytes
 abbrev pub Heads : ℕ → List ℕ → Header → Type 0
