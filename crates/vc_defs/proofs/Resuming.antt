@@ -30,7 +30,7 @@ use Rattle.vc_defs.proofs.Feeding.{Neat, all_neat, neat_drop, goes_on_at}
 -- Section: finds and the results that they give.
 
 -- the change that a header gives
-abbrev change_of : ℕ → Header → GivenResult
+abbrev pub change_of : ℕ → Header → GivenResult
 change_of position h = record { result = record { position = position; known = position + 44; kind = Changed h.geometry }; present = record { geometry = Some h.geometry; reference = None } }
 
 -- a find gives one result at most
@@ -208,22 +208,23 @@ take_next (suc n) (x ∷ xs) y ys e = ap (λ t. x ∷ t) (take_next n xs y ys e)
 
 -- Section: where so many results were given.
 
-abbrev began : Option Geometry → BetweenFrames
+abbrev pub began : Option Geometry → BetweenFrames
 began g = record { geometry = g; reference = None }
 
 -- Results of bytes that go on, by the finds that were told of them.
-record Reached (limit : ℕ) (g : Option Geometry) (bytes : List ℕ) (given : ℕ) : Type 0 where
-  now : BetweenFrames
-  told : ℕ
-  fits : told ≤ length (finds bytes limit)
-  pending : Pending limit bytes told
-  kept : kept_of limit bytes (drop given (from_start bytes limit g)) ≡ kept_before limit bytes (drop told (finds bytes limit))
-  point : Point limit bytes told
-  known : (more : List ℕ) → All (λ (x : GivenResult). length (drop point.at bytes) ≤ x.result.known) (given_in (drop point.at bytes ++ more) limit now.geometry now.reference)
-  positions : (more : List ℕ) → All (λ (x : GivenResult). IsStamped (length (drop point.at bytes)) x.result.position) (given_in (drop point.at bytes ++ more) limit now.geometry now.reference)
-  goes_on : (more : List ℕ) → drop given (from_start (bytes ++ more) limit g) ≡ map (moved_given point.at) (given_in (drop point.at bytes ++ more) limit now.geometry now.reference)
-  stands : (more : List ℕ) → reached (bytes ++ more) limit g given ≡ now
-  there : (more : List ℕ) → given ≤ length (from_start (bytes ++ more) limit g)
+pub record Reached (limit : ℕ) (g : Option Geometry) (bytes : List ℕ) (given : ℕ) : Type 0 where
+  pub now : BetweenFrames
+  pub told : ℕ
+  pub by_told : present_after (began g) (given_by_finds (take told (finds bytes limit)) (began g)) ≡ now
+  pub fits : told ≤ length (finds bytes limit)
+  pub pending : Pending limit bytes told
+  pub kept : kept_of limit bytes (drop given (from_start bytes limit g)) ≡ kept_before limit bytes (drop told (finds bytes limit))
+  pub point : Point limit bytes told
+  pub known : (more : List ℕ) → All (λ (x : GivenResult). length (drop point.at bytes) ≤ x.result.known) (given_in (drop point.at bytes ++ more) limit now.geometry now.reference)
+  pub positions : (more : List ℕ) → All (λ (x : GivenResult). IsStamped (length (drop point.at bytes)) x.result.position) (given_in (drop point.at bytes ++ more) limit now.geometry now.reference)
+  pub goes_on : (more : List ℕ) → drop given (from_start (bytes ++ more) limit g) ≡ map (moved_given point.at) (given_in (drop point.at bytes ++ more) limit now.geometry now.reference)
+  pub stands : (more : List ℕ) → reached (bytes ++ more) limit g given ≡ now
+  pub there : (more : List ℕ) → given ≤ length (from_start (bytes ++ more) limit g)
 
 -- all behind a find is known with it or later
 neat_after : (f : Find) (fs : List Find) → Neat (f ∷ fs) → All (λ g. known_at f ≤ known_at g) fs
@@ -251,7 +252,7 @@ kept_by limit bytes (f ∷ fs) now next =
     ∙ ap (λ k. cond (nat_le (known_at f) (length bytes)) (drop k bytes) (places bytes limit).tail) of.position
 
 -- a header that was told gives nothing more
-skip_gives : (limit : ℕ) (g : Option Geometry) (bytes : List ℕ) (told at : ℕ) (t : Told limit bytes told at) (now : BetweenFrames) → now ≡ present_after (began g) (given_by_finds (take told (finds bytes limit)) (began g)) →
+pub skip_gives : (limit : ℕ) (g : Option Geometry) (bytes : List ℕ) (told at : ℕ) (t : Told limit bytes told at) (now : BetweenFrames) → now ≡ present_after (began g) (given_by_finds (take told (finds bytes limit)) (began g)) →
     is_change t.header now.geometry ≡ false
 skip_gives limit g bytes told at t now e =
     let before : BetweenFrames = present_after (began g) (given_by_finds (take t.fewer (finds bytes limit)) (began g)) in
@@ -282,10 +283,11 @@ skipped_same limit g bytes told p now e more =
           ]
     ]
 
-reached_of : (limit : ℕ) (g : Option Geometry) (bytes : List ℕ) (given : ℕ) → IsReached bytes limit g given → Reached limit g bytes given
+pub reached_of : (limit : ℕ) (g : Option Geometry) (bytes : List ℕ) (given : ℕ) → IsReached bytes limit g given → Reached limit g bytes given
 reached_of limit g bytes given r = record {
   now = now;
   told = c.told;
+  by_told = refl;
   fits = c.fits;
   pending = waiting;
   kept = ap (λ t. kept_of limit bytes t) later ∙ kept_by limit bytes (drop c.told fs) now c.next;
@@ -345,7 +347,7 @@ reached_of limit g bytes given r = record {
 
 -- Section: one run.
 
-just_ordered : (limit : ℕ) (g : Option Geometry) (r : Option ReferenceState) (xs : List ℕ) → AreOrdered (just_results (given_in xs limit g r))
+pub just_ordered : (limit : ℕ) (g : Option Geometry) (r : Option ReferenceState) (xs : List ℕ) → AreOrdered (just_results (given_in xs limit g r))
 unfolding results
 just_ordered limit g r xs = results_are_ordered limit g r xs
 
