@@ -8,12 +8,11 @@ use Rattle.vc_base.specs.declared.Call.{Call}
 use Rattle.vc_base.specs.declared.Call.TheVariants.{Open, ReqBufs, QBuf, DqBuf, StreamOn}
 use Rattle.vc_base.specs.declared.Reply.{Reply}
 use Rattle.vc_base.specs.declared.Reply.TheVariants.{Count, Taken, Refused, Blocked}
-use Rattle.vc_base.specs.Buffers.{is_empty}
 use Rattle.vc_base.specs.Errnos.{errno_name}
 use Rattle.vc_model.specs.CoderRows.{listed_coder}
 use Rattle.vc_model.specs.Rows.{stamp}
 use Rattle.vc_model.specs.Script.{ReplyText, Asked, AsksCall, AsksRun}
-use Rattle.vc_model.specs.Audit.{AuditInput, first_wrong_line, audit_input}
+use Rattle.vc_model.specs.Audit.{first_wrong_line, audit_input}
 
 -- The texts of the calls of these rows.
 

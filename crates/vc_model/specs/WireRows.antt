@@ -1,8 +1,7 @@
 -- Worked messages: what a device of 16 slots replies to short inputs.
 use Rattle.std.specs.Prelude.{ℕ, ◌≡◌, List, [], ◌∷◌, ◌++◌}
-use Rattle.vc_model.specs.Coder.{Coder}
 use Rattle.vc_model.specs.CoderRows.{listed_coder}
-use Rattle.vc_model.specs.Messages.{messages, Fed, fed, more, whole, bad_length}
+use Rattle.vc_model.specs.Messages.{messages, fed, more, whole, bad_length}
 use Rattle.vc_model.specs.Wire.{Replies}
 
 abbrev pub RepliesTo : List ℕ → List ℕ → List ℕ → Type 0
