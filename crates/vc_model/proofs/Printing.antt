@@ -1,14 +1,13 @@
 -- What a script prints of each slot, and how many lines finishes print.
-use Rattle.std.proofs.Common.{ℕ, zero, suc, ◌≡◌, ◌≤◌, ◌<◌, ◌+◌, ◌^◌, ◌==◌, eqb, ltb, Bool, true, false, not, cond, ◌&&◌, ◌||◌, is_none, Option, Some, None, List, [], ◌∷◌, ◌++◌, length, get_or, set, take, drop, decimal, refl, sym, ap, ◌∙◌, subst, arith, append_assoc, length-set}
-use Rattle.std.specs.Prelude.{codes, bytes_eq, replicate}
-use Rattle.std.specs.List.{filter, flat_map, list_any}
+use Rattle.std.proofs.Common.{ℕ, suc, ◌≡◌, ◌≤◌, ◌<◌, ◌+◌, ◌^◌, ◌==◌, eqb, ltb, Bool, true, false, not, cond, ◌&&◌, ◌||◌, is_none, Option, Some, None, List, [], ◌∷◌, ◌++◌, length, get_or, take, drop, decimal, refl, sym, ap, ◌∙◌, subst, arith, append_assoc, length-set}
+use Rattle.std.specs.Prelude.{codes, bytes_eq}
+use Rattle.std.specs.List.{filter, flat_map}
 use Rattle.std.specs.Int.{IsInRange}
 use Rattle.std.proofs.Math.Seq.{take-append_seam}
 use Rattle.std.proofs.lemmas.List.{append-nil, length-replicate}
 use Rattle.std.proofs.lemmas.Grind.{flat_map-append}
 use Rattle.std.proofs.lemmas.List.Folds.{list_any-append}
-use Rattle.std.proofs.lemmas.Bool.{eqb-true, eqb-false, ltb-true, ne_eqb, eq-eqb, false≢true}
-use Rattle.std.proofs.lemmas.Bool.Decides.{not_from_Decides}
+use Rattle.std.proofs.lemmas.Bool.{eqb-true, eqb-false, ltb-true, ne_eqb, false≢true}
 use Rattle.std.proofs.lemmas.Slice.Eq.{bytes_eq-Decides}
 use Rattle.std.proofs.lemmas.Fmt.{decimal_is_IsNumeral, decimal_injective}
 use Rattle.std.proofs.lemmas.Str.Parse.{digit_at}
@@ -21,10 +20,10 @@ use Rattle.vc_model.specs.Coder.{Coder}
 use Rattle.vc_model.specs.Context.{Context, Slot, Running}
 use Rattle.vc_model.specs.Answer.{answer}
 use Rattle.vc_model.specs.Runs.{JobData, job_data, RunResult, copied, encoded, decoded, run_result, run_word, result_word, finish_word}
-use Rattle.vc_model.specs.Solo.{SoloEvent, Called, Claims, Finishes, SoloReply, Answered, Claimed, Finished, SoloEntry, solo_run, solo_slot}
+use Rattle.vc_model.specs.Solo.{Called, Claims, Finishes, Answered, Claimed, Finished, SoloEntry, solo_run, solo_slot}
 use Rattle.vc_model.specs.Devices.{DeviceState, DeviceReply, Told, NoJob, Empty, DeviceEntry, DeviceStep, new_device, slot_of, job_of, with_slot, ignored, call_answered, claim_slot, claim_first, finish_of, finish_slot, finish_job, device_step, device_after, device_run, projection, entry_for, entries_of, told_entries, all_entries}
-use Rattle.vc_model.specs.Handed.{same_bool, is_finish_by, finishes_by_fault}
-use Rattle.vc_model.specs.Script.{ReplyText, Asked, AsksNothing, AsksCall, AsksClaim, AsksFinish, AsksRun, most_slots, claim_text, finish_text, solo_text, run_text, device_text, run_events, line_events, text_without, line_text, printed_by, script_events, script_text, Prints, events_of_script, fault_in, with_first, split_lines, is_line_of, slot_lines, has_feed, begins_with, IsLineOfSlot, HasKnownFourcc, IsLineText, after_space, first_is, is_finish_line, finish_lines, SlotsPrintTheirOwn, SameEventsSameLines, FinishesArePrinted}
+use Rattle.vc_model.specs.Handed.{same_bool, finishes_by_fault}
+use Rattle.vc_model.specs.Script.{ReplyText, Asked, AsksNothing, AsksCall, AsksClaim, AsksFinish, AsksRun, most_slots, claim_text, finish_text, solo_text, run_text, device_text, line_events, text_without, line_text, printed_by, script_events, script_text, Prints, events_of_script, with_first, split_lines, is_line_of, slot_lines, has_feed, begins_with, IsLineOfSlot, HasKnownFourcc, IsLineText, after_space, first_is, is_finish_line, finish_lines, SlotsPrintTheirOwn, SameEventsSameLines, FinishesArePrinted}
 use Rattle.vc_model.proofs.Isolating.{isolated, is_there}
 use Rattle.vc_model.proofs.Knowing.{fourccs_known}
 use Rattle.vc_model.proofs.Standing.{after-append}

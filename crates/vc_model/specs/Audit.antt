@@ -1,6 +1,6 @@
 -- The audit of a report: whether it is what a device may print for a script, and which of its lines is the first that no device
 -- prints there (docs/FORMAT.md, "Audit").
-use Rattle.std.specs.Prelude.{ℕ, ◌≡◌, ◌<◌, ◌+◌, Bool, true, false, if◌then◌else◌, ◌==◌, bytes_eq, codes, length, take, drop, Option, Some, None, List, [], ◌∷◌, ◌++◌}
+use Rattle.std.specs.Prelude.{ℕ, ◌≡◌, ◌<◌, ◌+◌, if◌then◌else◌, bytes_eq, codes, length, drop, Option, Some, None, List, [], ◌∷◌, ◌++◌}
 use Rattle.vc_base.specs.Buffers.{is_empty}
 use Rattle.vc_model.specs.Coder.{Coder}
 use Rattle.vc_model.specs.Devices.{DeviceState, new_device, device_after}
