@@ -1,9 +1,8 @@
 -- A script prints its output line by line, and the replay of an audit finds nothing exactly where a report is right.
-use Rattle.std.proofs.Common.{ℕ, zero, suc, ◌≡◌, ◌≤◌, ◌<◌, ◌+◌, ◌^◌, ◌==◌, eqb, ltb, Bool, true, false, cond, ◌||◌, is_none, Option, Some, None, List, [], ◌∷◌, ◌++◌, length, get_or, set, take, drop, decimal, refl, sym, ap, ◌∙◌, subst, arith, append_assoc, get_or-set_same, length-set}
-use Rattle.std.specs.Prelude.{codes, bytes_eq, replicate, option_map}
-use Rattle.std.specs.List.{flat_map}
+use Rattle.std.proofs.Common.{ℕ, zero, suc, ◌≡◌, ◌≤◌, ◌<◌, ◌+◌, ◌^◌, ◌==◌, eqb, ltb, Bool, true, false, cond, ◌||◌, is_none, Option, Some, None, List, [], ◌∷◌, ◌++◌, length, get_or, set, drop, refl, sym, ap, ◌∙◌, subst, arith, append_assoc, get_or-set_same, length-set}
+use Rattle.std.specs.Prelude.{codes, bytes_eq, option_map}
 use Rattle.std.proofs.Math.Seq.{drop-append_seam}
-use Rattle.std.proofs.lemmas.List.{append-nil, length-replicate}
+use Rattle.std.proofs.lemmas.List.{length-replicate}
 use Rattle.std.proofs.lemmas.Bool.{lt-ltb, false≢true}
 use Rattle.std.proofs.lemmas.Slice.Eq.{bytes_eq-Decides}
 use Rattle.vc_base.specs.declared.Call.{Call}
@@ -12,13 +11,13 @@ use Rattle.vc_base.specs.Device.{DeviceEvent, call, claim, finish, shut}
 use Rattle.vc_model.specs.Coder.{Coder}
 use Rattle.vc_model.specs.Context.{Context, Slot, Running}
 use Rattle.vc_model.specs.Answer.{answer}
-use Rattle.vc_model.specs.Runs.{is_claimable, JobData, job_data, after_claim, finish_word}
-use Rattle.vc_model.specs.Devices.{DeviceState, DeviceStep, most_workers, new_device, slot_of, job_of, with_slot, ignored, call_answered, claim_slot, claim_first, finish_of, finish_slot, finish_job, device_step, device_after, device_run}
+use Rattle.vc_model.specs.Runs.{is_claimable, JobData, job_data, finish_word}
+use Rattle.vc_model.specs.Devices.{DeviceState, DeviceStep, most_workers, new_device, slot_of, job_of, with_slot, ignored, call_answered, claim_slot, claim_first, finish_of, finish_slot, finish_job, device_step, device_after}
 use Rattle.vc_model.specs.JobList.{waits, ListIsExact}
-use Rattle.vc_model.specs.Standing.{job_in, job_in_slot, worker_job}
+use Rattle.vc_model.specs.Standing.{job_in, job_in_slot}
 use Rattle.vc_model.specs.Seats.{WorkersAreApart}
-use Rattle.vc_model.specs.Script.{ReplyText, Asked, AsksNothing, AsksCall, AsksClaim, AsksFinish, AsksRun, most_slots, IsAsked, AreAsked, claim_text, finish_text, device_text, found_in, fault_in, run_events, line_events, text_without, line_text, lines_printed, first_lines, printed_by, script_events, script_text, Prints, has_feed, IsLineText, split_lines, PrintsLines, LinesArePrinted}
-use Rattle.vc_model.specs.Audit.{same_lines, wrong_from, first_wrong_line, IsRight, FindsRight, ReplayFindsRight}
+use Rattle.vc_model.specs.Script.{ReplyText, Asked, AsksNothing, AsksCall, AsksClaim, AsksFinish, AsksRun, most_slots, IsAsked, AreAsked, claim_text, finish_text, device_text, found_in, fault_in, run_events, line_events, line_text, lines_printed, first_lines, printed_by, script_text, has_feed, IsLineText, split_lines, PrintsLines, LinesArePrinted}
+use Rattle.vc_model.specs.Audit.{same_lines, wrong_from, ReplayFindsRight}
 use Rattle.vc_model.proofs.Isolating.{is_there}
 use Rattle.vc_model.proofs.Listing.{exact_list, front_waits}
 use Rattle.vc_model.proofs.Printing.{Line, rest_of, line_front, front_text, front_feed, claim_line, finish_line, call_line, word_feed, Comes, comes_slots, comes_next, comes_known, comes_after}

@@ -1,13 +1,12 @@
 -- Which buffers a user holds: that is decided by his own calls and their replies alone, whatever claims, finishes and calls on
--- other slots come between (docs/DEVICE.md, "Payloads").
-use Rattle.std.specs.Prelude.{ℕ, ◌≡◌, ◌+◌, Bool, true, false, not, ◌&&◌, ◌==◌, nat_lt, if◌then◌else◌, None, Some, List, [], ◌∷◌}
+-- other slots come between (docs/DEVICE.md, "One context").
+use Rattle.std.specs.Prelude.{ℕ, ◌≡◌, ◌+◌, Bool, false, not, ◌&&◌, ◌==◌, nat_lt, if◌then◌else◌, None, Some, List, [], ◌∷◌}
 use Rattle.std.specs.List.{filter, list_any}
 use Rattle.vc_base.specs.declared.Side.{Side}
 use Rattle.vc_base.specs.declared.Call.{Call}
 use Rattle.vc_base.specs.declared.Call.TheVariants.{Open, Close, ReqBufs, CreateBufs, QBuf, DqBuf, StreamOff}
 use Rattle.vc_base.specs.declared.Reply.{Reply}
 use Rattle.vc_base.specs.declared.Reply.TheVariants.{Done, Count, Created, Taken}
-use Rattle.vc_base.specs.Buffers.{Buffer}
 use Rattle.vc_model.specs.Coder.{Coder}
 use Rattle.vc_model.specs.Context.{Slot, queue_of}
 use Rattle.vc_model.specs.Solo.{SoloEvent, Called, SoloReply, Answered, SoloEntry, solo_run, solo_slot}
