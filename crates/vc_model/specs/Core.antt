@@ -1,5 +1,5 @@
 -- The steps of a core: what each call, claim, finish and shut makes of the state that it keeps, where the data of running jobs
--- are with the jobs (docs/DEVICE.md, "Core and jobs").
+-- are with the jobs (docs/DEVICE.md, "Many contexts").
 use Rattle.std.specs.Prelude.{ℕ, ◌≡◌, ◌≤◌, ◌<◌, Bool, true, false, if◌then◌else◌, nat_lt, is_none, codes, set, replicate, length, Option, Some, None, List, [], ◌∷◌, ◌++◌}
 use Rattle.vc_base.specs.declared.Call.{Call}
 use Rattle.vc_base.specs.declared.Reply.{Reply}

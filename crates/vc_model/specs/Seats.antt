@@ -1,5 +1,5 @@
 -- What a caller knows of the history of a shared device: of a handle, which makes the calls of one slot, and of a worker's seat,
--- which claims and finishes jobs (docs/DEVICE.md, "History").
+-- which claims and finishes jobs (docs/DEVICE.md, "Many contexts").
 use Rattle.std.specs.Prelude.{ℕ, ◌≡◌, ◌+◌, Bool, true, false, ◌||◌, ◌==◌, nat_lt, if◌then◌else◌, take, length, map, get_or, slice_get, Option, Some, None, List, [], ◌∷◌, ◌++◌}
 use Rattle.std.specs.List.{filter, flat_map, list_any}
 use mathlib.Core.List.{IsPrefix}
