@@ -5,7 +5,7 @@ use Rattle.vc_base.specs.declared.Side.TheVariants.{Cap}
 use Rattle.vc_base.specs.declared.Kind.TheVariants.{Dec}
 use Rattle.vc_base.specs.declared.Errno.TheVariants.{Pipe}
 use Rattle.vc_base.specs.declared.Call.{Call}
-use Rattle.vc_base.specs.declared.Call.TheVariants.{DqBuf, DecCmd, EncCmd}
+use Rattle.vc_base.specs.declared.Call.TheVariants.{Close, DqBuf, StreamOff, DecCmd, EncCmd}
 use Rattle.vc_base.specs.declared.Reply.{Reply}
 use Rattle.vc_base.specs.declared.Reply.TheVariants.{Done, Refused}
 use Rattle.vc_base.specs.Buffers.{Buffer, last_flag}
@@ -63,6 +63,21 @@ DrainsBeginAtStop =
 abbrev pub MarksStay : Type 0
 MarksStay =
     AtEveryStep (λ before e told after. (mark : ℕ) → before.mark ≡ Some mark → (after.mark ≡ Some mark) ⊎ (after.mark ≡ None))
+
+-- the calls that abort a drain: StreamOff of either side, and Close
+abbrev pub is_off_call : Call → Bool
+is_off_call (StreamOff side) = true
+is_off_call Close = true
+is_off_call request = false
+
+abbrev pub is_off : SoloEvent → SoloReply → Bool
+is_off (Called request bytes found) (Answered reply handed) = is_off_call request && is_done reply
+is_off e told = false
+
+-- A drain is aborted by a StreamOff or a Close alone.
+abbrev pub AbortedByOff : Type 0
+AbortedByOff =
+    (coder : Coder) (events : List SoloEvent) (e : SoloEvent) (before : Context) → solo_slot coder None events ≡ Some before → let r = solo_step coder (Some before) e in aborts_drain (Some before) e r.told r.slot ≡ true → is_off e r.told ≡ true
 
 -- The LAST buffer
 

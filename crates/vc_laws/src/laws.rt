@@ -1,7 +1,7 @@
 //! Laws over the runs of one slot, proved from the definitions alone.
 
-ghost use Rattle.vc_laws.specs.Drains.{DrainsBeginAtStop, MarksStay, LastIsTold, NothingAfterLast, AllWentBack, EndedQueueRefuses, StopsByChange, ChangesStop, DrainsAreWhole, DrainsGiveAll, FrameAfterChange, SameDrainsSameResults};
-ghost use Rattle.vc_laws.specs.Following.{EncoderFollows, Follows, SegmentsBegin, RetiredAreResults};
+ghost use Rattle.vc_laws.specs.Drains.{AbortedByOff, AllWentBack, ChangesStop, DrainsAreWhole, DrainsBeginAtStop, DrainsGiveAll, EndedQueueRefuses, FrameAfterChange, LastIsTold, MarksStay, NothingAfterLast, ResultsBeforeChange, SameDrainsSameResults, StopsByChange};
+ghost use Rattle.vc_laws.specs.Following.{EncoderFollows, Follows, RetiredAreResults, SegmentsBegin};
 ghost use Rattle.vc_defs.specs.Laws.{Resuming};
 
 /// A drain begins at a STOP alone, and its mark is the number of OUTPUT buffers queued before it.
@@ -12,6 +12,11 @@ pub fn drains_begin_at_stop()
 /// Until it is removed a mark stays as it was set.
 pub fn marks_stay()
     ensures { MarksStay }
+{}
+
+/// A drain is aborted by a StreamOff or a Close alone.
+pub fn aborted_by_off()
+    ensures { AbortedByOff }
 {}
 
 /// LAST is told by the flag of exactly one buffer, the final one that goes to done in the step that gives it.
@@ -62,6 +67,11 @@ pub fn retired_are_results()
 /// Before the first run of a segment it has neither bytes nor results.
 pub fn segments_begin()
     ensures { SegmentsBegin }
+{}
+
+/// Where the LAST buffer of a change is given, the results before it are all in buffers that went to done before it.
+pub fn results_before_change()
+    ensures { ResultsBeforeChange }
 {}
 
 /// The results of a decoder's segment are the sequential decoder's for the bytes that its runs consumed. This is
