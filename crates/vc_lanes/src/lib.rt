@@ -1,4 +1,5 @@
-//! The Walsh transform by vectors of eight lanes.
+//! The Walsh transform by vectors of eight lanes, for `std::simd`. A lane has a column of the block, and a step of
+//! butterflies is a sum and a difference of whole rows.
 #![tactic(auto)]
 
 ghost use Rattle.std.specs.Prelude.{◌≡◌, ◌≢◌, ◌≤◌, ◌<◌, ◌+◌, ◌*◌, ◌/◌, ◌+ℤ◌, ◌-ℤ◌, ℕ, ℤ, pos, neg_ℤ, length, slice_index_or, take, drop};
@@ -97,7 +98,7 @@ fn columns_of(x: &[i32; 64]) -> [i32; 64]
     last_stage_of(&stage_of(&stage_of(x)))
 }
 
-/// The transform by vectors, of which a lane has a column.
+/// The transform by vectors, of which a lane has a column. It gives what every [`Transform`] gives.
 #[derive(Clone, Copy, Debug)]
 pub struct LaneTransform;
 
@@ -110,3 +111,6 @@ impl Transform for LaneTransform {
         columns_of(&rows_of(c))
     }
 }
+
+#[cfg(test)]
+mod tests;

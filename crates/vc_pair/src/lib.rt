@@ -1,7 +1,7 @@
 //! Two queues with a phase and a mark: draining, stopping and settling.
 #![tactic(auto)]
 
-ghost use Rattle.std.specs.Prelude.{◌≡◌, ◌≢◌, ◌<◌, ◌^◌, not, ◌&&◌, ◌||◌, ℕ, None, Some, List, [], ◌∷◌, take, bit_or, is_some, IsTrue, min, OnErr, ◌++◌};
+ghost use Rattle.std.specs.Prelude.{◌≡◌, ◌≢◌, ◌<◌, ◌^◌, not, ◌&&◌, ◌||◌, ℕ, None, Some, List, [], ◌∷◌, take, bit_or, is_some, false, IsTrue, min, OnErr, ◌++◌};
 ghost use Rattle.vc_base.specs.declared.Side.TheVariants.{Out, Cap};
 ghost use Rattle.vc_base.specs.Buffers.{without_job_bytes, lend_after, give_back_after, retire_after, streamon_refusal, streamon_after, is_empty, buffer_count, most_buffers, qbuf_refusal, qbuf_after, dqbuf_refusal, reqbufs_refusal, reqbufs_after, create_refusal, created, create_after};
 ghost use Rattle.vc_model.specs.Context.{run, owe, last, stopped, is_run, is_stopped, is_drained, PhaseState};
@@ -11,7 +11,7 @@ ghost use Rattle.vc_queue.specs.Growing.{AnswersWithMemory, KeepsFirst};
 ghost use Rattle.vc_queue.specs.Holds.{with_payload};
 ghost use Rattle.vc_queue.specs.Releasing.{AllGoToUser};
 ghost use Rattle.vc_queue.specs.Lending.{IsLentFrom, IsBack, back_bytes};
-ghost use Rattle.vc_pair.specs.Pairs.{PairState, new_pair, queue_at, with_queue_at, IsIdle, both_streaming, stop_refusal, pair_marked, start_refusal, pair_started, is_final, cap_retired, out_retired, IsAsQueued, pair_changed, owes_last, owing, is_owing, given, gives_end, FitsBoth, is_ended_at, pair_at_last, pair_taken, pair_off, pair_settled, raises_end, is_due};
+ghost use Rattle.vc_pair.specs.Pairs.{PairState, new_pair, queue_at, with_queue_at, IsIdle, both_streaming, stop_refusal, pair_marked, start_refusal, pair_started, is_final, cap_retired, out_retired, pair_changed, owes_last, owing, is_owing, given, gives_end, FitsBoth, is_ended_at, pair_at_last, pair_taken, pair_off, pair_settled, raises_end, is_due, IsSettled};
 ghost use Rattle.vc_pair.specs.Phases.{phase_alone, phase_of};
 
 pub mod laws;
@@ -228,12 +228,12 @@ impl Pair {
     pub fn retire_out(&mut self, lent: Lent, flags: u32)
         requires one { self.old.out.job ≢ [] }
         requires whole { IsBack self.old.out.job lent }
-        requires as_queued { IsAsQueued self.old.out.job lent }
         requires counts { self.old.out.next_seq < 2 ^ 62 }
         ensures { self.new ≡ out_retired self.old (back_bytes self.old.out.job lent) flags }
     {
-        let used = lent.used;
-        let stamp = lent.stamp;
+        let Some((used, stamp)) = self.out.queued_with() else {
+            unreachable!()
+        };
         self.out.retire(lent, used, flags, stamp);
     }
 
@@ -327,6 +327,8 @@ impl Pair {
         requires counts { self.old.cap.next_seq < 2 ^ 62 }
         ensures after { self.new ≡ pair_settled self.old }
         ensures raises { result ≡ raises_end self.old }
+        ensures settled { IsSettled self.new }
+        ensures again { IsSettled self.old → (self.new ≡ self.old) × (result ≡ false) }
     {
         self.owe();
         self.give_last()

@@ -1,5 +1,5 @@
 -- The ranges of values and of coefficients.
-use Rattle.std.proofs.Common.{◌≡◌, ◌∙◌, sym, ap, subst, ℕ, suc, zero, ◌*◌, ◌≤◌, ◌<◌, ◌/◌, ◌^◌, get_or, refl, arith}
+use Rattle.std.proofs.Common.{◌≡◌, ap, ℕ, suc, zero, ◌*◌, ◌≤◌, ◌<◌, ◌/◌, ◌^◌, get_or, refl, arith}
 use Rattle.std.specs.Prelude.{List, length, ◌≤ℤ◌, neg_ℤ, true, false, Bool, ℤ, pos, negsuc, ◌*ℤ◌, nat_le, unsigned_abs, cond}
 use Rattle.std.specs.Int.{int_shr}
 use Rattle.std.proofs.Math.Nat.{mul-le-mul_left}

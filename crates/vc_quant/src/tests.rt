@@ -1,6 +1,6 @@
 //! Worked values of docs/FORMAT.md, which no clause names.
 
-ghost use Rattle.std.specs.Prelude.{◌≤ℤ◌, neg_ℤ, pos};
+ghost use Rattle.std.specs.Prelude.{◌≤ℤ◌, neg_ℤ, pos, true, false};
 ghost use Rattle.vc_defs.specs.Quantiser.{AreValues, AreCoefficients};
 
 use super::*;

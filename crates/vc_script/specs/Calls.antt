@@ -1,6 +1,5 @@
 -- What the words behind a verb mean.
-use Rattle.std.specs.Prelude.{ℕ, ◌-◌, ◌^◌, List, [], ◌∷◌, Option, Some, None, option_and_then, option_map, true, false}
-use denote.Ref.{Bor}
+use Rattle.std.specs.Prelude.{ℕ, ◌-◌, ◌^◌, List, [], ◌∷◌, Option, Some, None, option_map, true, false}
 use Rattle.vc_base.specs.declared.Side.{Side}
 use Rattle.vc_base.specs.declared.Kind.{Kind}
 use Rattle.vc_base.specs.declared.Format.{Format}
@@ -8,11 +7,8 @@ use Rattle.vc_base.specs.declared.Call.{Call}
 use Rattle.vc_base.specs.declared.Call.TheVariants as calls
 use Rattle.vc_script.specs.declared.verb.Verb.{Verb}
 use Rattle.vc_script.specs.declared.verb.Verb.TheVariants as verbs
+use Rattle.vc_script.specs.Optional.{◌>>=◌}
 use Rattle.vc_script.specs.Fields.{side_of, kind_of, number_of, fourcc_of}
-
-infixl 10 ◌>>=◌
-abbrev pub ◌>>=◌ : {A B : Type 0} → Option A → (A → Option B) → Option B
-o >>= f = option_and_then f o
 
 -- exactly so many words
 abbrev pub one_of : List (List ℕ) → Option (List ℕ)
@@ -32,19 +28,6 @@ three_of (a ∷ []) = None
 three_of (a ∷ b ∷ []) = None
 three_of (a ∷ b ∷ c ∷ []) = Some (a, b, c)
 three_of (a ∷ b ∷ c ∷ d ∷ ws) = None
-
--- the same as the code has them
-abbrev pub one_read : Option (Bor (List ℕ)) → Option (List ℕ)
-one_read None = None
-one_read (Some a) = Some a.now
-
-abbrev pub two_read : Option (Bor (List ℕ) × Bor (List ℕ)) → Option (List ℕ × List ℕ)
-two_read None = None
-two_read (Some r) = Some (r.0.now, r.1.now)
-
-abbrev pub three_read : Option (Bor (List ℕ) × Bor (List ℕ) × Bor (List ℕ)) → Option (List ℕ × List ℕ × List ℕ)
-three_read None = None
-three_read (Some r) = Some (r.0.now, r.1.now, r.2.now)
 
 -- a number of 32 bits
 abbrev pub small_of : List ℕ → Option ℕ

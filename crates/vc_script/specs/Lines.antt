@@ -1,5 +1,5 @@
 -- What a line asks for.
-use Rattle.std.specs.Prelude.{ℕ, ◌^◌, ◌-◌, ◌==◌, nat_lt, if◌then◌else◌, Bool, List, [], ◌∷◌, length, slice_index, bytes_eq, codes, Option, Some, None, option_and_then, option_map}
+use Rattle.std.specs.Prelude.{ℕ, ◌^◌, ◌-◌, ◌==◌, nat_lt, if◌then◌else◌, Bool, List, [], ◌∷◌, length, slice_index, bytes_eq, codes, Option, Some, None, option_map}
 use Rattle.vc_base.specs.declared.Side.{Side}
 use Rattle.vc_base.specs.declared.Side.TheVariants.{Out, Cap}
 use Rattle.vc_base.specs.declared.Call.{Call}
@@ -8,17 +8,12 @@ use Rattle.vc_script.specs.declared.verb.Verb.{Verb}
 use Rattle.vc_script.specs.declared.verb.Verb.TheVariants as verbs
 use Rattle.vc_script.specs.declared.line.Line.{Line}
 use Rattle.vc_script.specs.declared.line.Line.TheVariants as lines
-use Rattle.vc_script.specs.declared.read.Job.{Job}
-use Rattle.vc_script.specs.declared.read.Job.TheVariants as jobs
+use Rattle.vc_script.specs.Optional.{◌>>=◌}
 use Rattle.vc_script.specs.Words.{words_of}
 use Rattle.vc_script.specs.Fields.{side_of, number_of}
 use Rattle.vc_script.specs.Payload.{payload_of}
 use Rattle.vc_script.specs.Verb.{verb_of}
 use Rattle.vc_script.specs.Calls.{one_of, three_of, small_of, call_of}
-
-infixl 10 ◌>>=◌
-abbrev pub ◌>>=◌ : {A B : Type 0} → Option A → (A → Option B) → Option B
-o >>= f = option_and_then f o
 
 -- a buffer queued on a side, and the bytes that go into it
 abbrev pub queued_on : Side → List (List ℕ) → Option (Call × List ℕ)
@@ -68,11 +63,6 @@ abbrev pub worker_of : List (List ℕ) → Option ℕ
 worker_of ws = do
   w ← one_of ws
   number_of 15 w
-
-abbrev pub job_line : Job → ℕ → Line
-job_line jobs.Claim k = lines.Claim k
-job_line jobs.Finish k = lines.Finish k
-job_line jobs.Run k = lines.Run k
 
 -- the lines of jobs begin with a word, and all others with a slot
 abbrev pub line_with : ℕ → List ℕ → List (List ℕ) → Option Line

@@ -1,7 +1,9 @@
--- The text of an answer.
+-- What is printed: the lines that answer the calls, claims and finishes of a script.
 use Rattle.std.specs.Prelude.{ℕ, ◌≤◌, nat_lt, if◌then◌else◌, Bool, true, false, List, [], ◌∷◌, ◌++◌, length, take, codes, decimal, ⊤}
+use Rattle.std.specs.List.{list_all}
 use Rattle.std.specs.Fmt.{digits}
 use Rattle.hex.specs.Hex.{encode_lower}
+use Rattle.vc_base.specs.declared.Fourcc.{Fourcc}
 use Rattle.vc_base.specs.declared.Side.TheVariants.{Cap}
 use Rattle.vc_base.specs.declared.Call.{Call}
 use Rattle.vc_base.specs.declared.Call.TheVariants as calls
@@ -10,6 +12,7 @@ use Rattle.vc_base.specs.declared.Reply.TheVariants as replies
 use Rattle.vc_base.specs.Errnos.{errno_name}
 use Rattle.vc_script.specs.declared.verb.Verb.{Verb}
 use Rattle.vc_script.specs.declared.verb.Verb.TheVariants as verbs
+use Rattle.vc_script.specs.Fields.{printable}
 use Rattle.vc_script.specs.Verb.{verb_name}
 
 -- the verb of the line that makes a call
@@ -43,6 +46,11 @@ abbrev pub takes_capture : Call → Bool
 takes_capture (calls.DqBuf Cap block) = true
 takes_capture call = false
 
+-- The four characters of a format. Each format of the device has printable ones; any others are told by question
+-- marks, so that a line stays one line.
+abbrev pub fourcc_text : Fourcc → List ℕ
+fourcc_text fourcc = if list_all printable fourcc.0 then fourcc.0 else codes "????"
+
 -- flags in lower-case hexadecimal
 abbrev pub flag_text : ℕ → List ℕ
 flag_text flags = digits 16 false flags
@@ -59,8 +67,8 @@ bit_text true = codes "1"
 -- the words behind the verb
 abbrev pub answer_words : Call → Reply → List ℕ → List (List ℕ)
 answer_words call replies.Done payload = codes "ok" ∷ []
-answer_words call (replies.Desc fourcc) payload = codes "ok" ∷ fourcc.0 ∷ []
-answer_words call (replies.Fmt f) payload = codes "ok" ∷ f.fourcc.0 ∷ decimal f.width ∷ decimal f.height ∷ decimal f.size ∷ []
+answer_words call (replies.Desc fourcc) payload = codes "ok" ∷ fourcc_text fourcc ∷ []
+answer_words call (replies.Fmt f) payload = codes "ok" ∷ fourcc_text f.fourcc ∷ decimal f.width ∷ decimal f.height ∷ decimal f.size ∷ []
 answer_words call (replies.Count count) payload = codes "ok" ∷ decimal count ∷ []
 answer_words call (replies.Created index count) payload = codes "ok" ∷ decimal index ∷ decimal count ∷ []
 answer_words call (replies.Info index size flags) payload = codes "ok" ∷ decimal index ∷ decimal size ∷ flag_text flags ∷ []
@@ -79,6 +87,26 @@ spaced (w ∷ ws) = (32 ∷ w) ++ spaced ws
 -- the line that answers a call
 unfoldable pub reply_text : ℕ → Call → Reply → List ℕ → List ℕ
 reply_text slot call reply payload = decimal slot ++ spaced (verb_name (call_verb call) ∷ answer_words call reply payload) ++ (10 ∷ [])
+
+-- a slot was claimed
+abbrev pub claim_text : ℕ → List ℕ
+claim_text slot = decimal slot ++ codes " claim\n"
+
+-- no slot waited to be claimed
+abbrev pub no_claim_text : List ℕ
+no_claim_text = codes "- claim none\n"
+
+-- the worker already has a job
+abbrev pub busy_text : List ℕ
+busy_text = codes "- claim busy\n"
+
+-- the job of a slot is finished, and the word says how
+abbrev pub finish_text : ℕ → List ℕ → List ℕ
+finish_text slot word = decimal slot ++ (codes " finish " ++ (word ++ codes "\n"))
+
+-- the worker has no job
+abbrev pub idle_text : List ℕ
+idle_text = codes "- finish idle\n"
 
 -- what is taken from CAPTURE comes with all its used bytes
 abbrev pub HasUsedBytes : Call → Reply → List ℕ → Type 0

@@ -1,9 +1,10 @@
 ghost use Rattle.std.specs.Prelude.{◌≡◌, ◌≤◌, ◌++◌, ◌∷◌, [], length, codes, decimal, OnOk, OnErr, IsTrue};
-ghost use Rattle.vc_script.specs.Texts.{call_verb, takes_capture, flag_text, payload_text, bit_text, answer_words, spaced, reply_text, HasUsedBytes};
+ghost use Rattle.vc_script.specs.Texts.{call_verb, takes_capture, fourcc_text, flag_text, payload_text, bit_text, answer_words, spaced, reply_text, HasUsedBytes};
 
+use crate::fields::are_printable;
 use crate::verb::Verb;
 use std::alloc::Global;
-use vc_base::{Call, NoMemory, Reply, Side};
+use vc_base::{Call, Fourcc, NoMemory, Reply, Side};
 
 fn verb_of_call(call: &Call) -> Verb
     ensures { result ≡ call_verb call.now }
@@ -69,6 +70,16 @@ fn put_flags(alloc: Global, line: &mut Vec<u8>, flags: u32) -> Result<(), NoMemo
     put_word(line, text.as_bytes())
 }
 
+fn fourcc_word(fourcc: &Fourcc) -> &[u8]
+    ensures { result.now ≡ fourcc_text fourcc.now }
+{
+    if are_printable(&fourcc.0) {
+        &fourcc.0
+    } else {
+        b"????"
+    }
+}
+
 fn put_bit(line: &mut Vec<u8>, bit: bool) -> Result<(), NoMemory>
     ensures { OnOk result (line.new.items ≡ line.old.items ++ (32 ∷ bit_text bit)) }
 {
@@ -129,11 +140,11 @@ fn put_answer(
         Reply::Done => put_word(line, b"ok"),
         Reply::Desc { fourcc } => {
             put_word(line, b"ok")?;
-            put_word(line, &fourcc.0)
+            put_word(line, fourcc_word(fourcc))
         }
         Reply::Fmt { format } => {
             put_word(line, b"ok")?;
-            put_word(line, &format.fourcc.0)?;
+            put_word(line, fourcc_word(&format.fourcc))?;
             put_number(alloc, line, u64::from(format.width))?;
             put_number(alloc, line, u64::from(format.height))?;
             put_number(alloc, line, u64::from(format.size))
@@ -203,7 +214,10 @@ fn put_answer(
     }
 }
 
-/// Appends the line that answers a call. Without memory nothing is appended.
+/// Appends the line that answers a call: the slot, the verb of the call's line, and `ok` with what the
+/// reply tells, the name of an errno, or `blocked`. Of a buffer taken from CAPTURE the used bytes follow,
+/// which are the first of the payload; otherwise the payload isn't looked at. Without memory nothing is
+/// appended.
 #[tactic(auto, unfolding(crate::specs::Texts::reply_text))]
 pub fn put_reply(
     alloc: Global,

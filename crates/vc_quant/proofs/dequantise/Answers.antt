@@ -1,4 +1,4 @@
-use Rattle.std.proofs.Common.{◌≡◌, arith}
+use Rattle.std.proofs.Common.{arith}
 use Rattle.vc_defs.specs.Quantiser.{dequantised}
 use Rattle.vc_defs.proofs.Tables.{table_is}
 use Rattle.vc_quant.proofs.Ranges.{dequantised_in_range}

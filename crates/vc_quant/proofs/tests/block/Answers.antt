@@ -1,4 +1,4 @@
-use Rattle.std.proofs.Common.{◌≡◌, ◌∙◌, sym, arith, ℕ, ◌<◌, List, length, get_or, set, replicate, inl, inr, get_or-set_same, get_or-set_other}
+use Rattle.std.proofs.Common.{◌≡◌, arith, ℕ, ◌<◌, List, length, get_or, set, replicate, inl, inr, get_or-set_same, get_or-set_other}
 use Rattle.std.specs.Prelude.{ℤ, pos, negsuc, neg_ℤ, ◌≤ℤ◌}
 use Rattle.std.specs.Int.{w32}
 use mir.Val.{to_z, of_z}
@@ -27,19 +27,21 @@ zeros low high w k hk =
 small_back : (z : ℤ) → (neg_ℤ (pos 2048) ≤ℤ z) × (z ≤ℤ pos 2047) → to_z w32 (of_z w32 z) ≡ z
 small_back z h = omega (arith, ints)
 
+as_held : (z : ℤ) → (neg_ℤ (pos 2048) ≤ℤ z) × (z ≤ℤ pos 2047) → (neg_ℤ (pos 2048) ≤ℤ to_z w32 (of_z w32 z)) × (to_z w32 (of_z w32 z) ≤ℤ pos 2047)
+as_held z h = rw (small_back z h) h
+
 filled : (low high first last : ℤ) → low ≤ℤ neg_ℤ (pos 2048) → pos 2047 ≤ℤ high → (neg_ℤ (pos 2048) ≤ℤ first) × (first ≤ℤ pos 2047) → (neg_ℤ (pos 2048) ≤ℤ last) × (last ≤ℤ pos 2047) →
-    AllBetween low high (set (set (replicate 64 (pos 0)) 0 (to_z w32 (of_z w32 first))) 63 (to_z w32 (of_z w32 last)))
+    AllBetween low high (set (set (replicate 64 (pos 0)) 0 first) 63 last)
 filled low high first last l h a b =
-    rw (small_back first a, small_back last b)
-    (between_set low high (set (replicate 64 (pos 0)) 0 first) 63 last
+    between_set low high (set (replicate 64 (pos 0)) 0 first) 63 last
     (between_set low high (replicate 64 (pos 0)) 0 first (zeros low high (omega (arith, ints), omega (arith, ints))) (omega (arith, ints), omega (arith, ints)))
-    (omega (arith, ints), omega (arith, ints)))
+    (omega (arith, ints), omega (arith, ints))
 
 pub returns-clause-values : goal.returns-clause-values
-returns-clause-values c = filled (negsuc 2047) (pos 2047) c.args.first c.args.last (omega (arith, ints)) (omega (arith, ints)) c.requires.first c.requires.last
+returns-clause-values c = filled (negsuc 2047) (pos 2047) (to_z w32 (of_z w32 c.args.first)) (to_z w32 (of_z w32 c.args.last)) (omega (arith, ints)) (omega (arith, ints)) (as_held c.args.first c.requires.first) (as_held c.args.last c.requires.last)
 
 pub returns-clause-intra : goal.returns-clause-intra
-returns-clause-intra c = filled (negsuc 8191) (pos 8160) c.args.first c.args.last (omega (arith, ints)) (omega (arith, ints)) c.requires.first c.requires.last
+returns-clause-intra c = filled (negsuc 8191) (pos 8160) (to_z w32 (of_z w32 c.args.first)) (to_z w32 (of_z w32 c.args.last)) (omega (arith, ints)) (omega (arith, ints)) (as_held c.args.first c.requires.first) (as_held c.args.last c.requires.last)
 
 pub returns-clause-inter : goal.returns-clause-inter
-returns-clause-inter c = filled (negsuc 16319) (pos 16320) c.args.first c.args.last (omega (arith, ints)) (omega (arith, ints)) c.requires.first c.requires.last
+returns-clause-inter c = filled (negsuc 16319) (pos 16320) (to_z w32 (of_z w32 c.args.first)) (to_z w32 (of_z w32 c.args.last)) (omega (arith, ints)) (omega (arith, ints)) (as_held c.args.first c.requires.first) (as_held c.args.last c.requires.last)
