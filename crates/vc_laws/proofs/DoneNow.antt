@@ -20,11 +20,11 @@ use Rattle.vc_model.specs.Context.{Context, Slot, Cause, drain, change, PhaseSta
 use Rattle.vc_model.specs.Answer.{answer, context_answer, unless_or_block, taken_answer, start_is_early, without_drain_stop, is_stopped_by_drain}
 use Rattle.vc_model.specs.Runs.{JobData, job_data, RunResult, copied, encoded, decoded, run_result, type_flag, result_word, run_word, finish_word}
 use Rattle.vc_model.specs.Solo.{SoloEvent, Called, Claims, Finishes, SoloReply, Answered, Claimed, Finished, Nothing, solo_step}
-use Rattle.vc_model.specs.Sound.{is_last, stops_by_change, is_put_off, IsSound, IsSoundSlot}
+use Rattle.vc_model.specs.Sound.{is_last, stops_by_change, drain_not_noted, IsOrdered, IsOrderedSlot}
 use Rattle.vc_model.specs.Drains.{is_last_by_drain, gives_last, done_now}
 use Rattle.vc_model.proofs.Tests.{and_left, and_right}
 use Rattle.vc_model.proofs.Firm.{idle}
-use Rattle.vc_model.proofs.Ending.{always_sound, step_sound}
+use Rattle.vc_model.proofs.Ending.{always_ordered, step_sound}
 use Rattle.vc_laws.specs.Drains.{is_last_by_change, gives_change, is_flagged_last, EndsWithLast, LastIsTold, is_over, NothingAfterLast, IsNewest, AllWentBack, EndedQueueRefuses, is_owed, IsOneLast, StopsByChange, IsFirstOfStop, ChangesStop}
 use Rattle.vc_laws.proofs.Effects.{Settles, still, owes, gives, Effect, stays, closes, has_events, has_rates, has_out_format, has_cap_format, has_out_buffers, has_cap_buffers, adds_out, adds_cap, queues_out, queues_cap, takes_out, takes_cap, takes_last, streams_out, streams_cap, stops_out, stops_cap, rests_cap, sets_mark, starts}
 use Rattle.vc_laws.proofs.Steps.{Puts, puts_fault, puts_copy, puts_frame, puts_picture, puts_damage, Ends, alone, kept, ended, halts, spends, Returns, none_taken, given_back, probes, runs, Step, calls, rests, lacks_job, claims, finishes, faults, step_of}
@@ -124,9 +124,9 @@ run_no_last (owe cause) e = refl
 run_no_last (last cause) e = absurd (false≢true e)
 run_no_last (stopped cause) e = refl
 
-owing_no_last : (x : Context) (cause : Cause) → (x.phase ≡ owe cause) ⊎ ((cause ≡ drain) × (is_put_off x ≡ true)) → is_last x.phase ≡ false
+owing_no_last : (x : Context) (cause : Cause) → (x.phase ≡ owe cause) ⊎ ((cause ≡ drain) × (drain_not_noted x ≡ true)) → is_last x.phase ≡ false
 owing_no_last x cause p =
-    ⊎_elim (λ (e : x.phase ≡ owe cause). ap is_last e) (λ (e : (cause ≡ drain) × (is_put_off x ≡ true)). run_no_last x.phase (and_left (is_run x.phase) _ e.1)) p
+    ⊎_elim (λ (e : x.phase ≡ owe cause). ap is_last e) (λ (e : (cause ≡ drain) × (drain_not_noted x ≡ true)). run_no_last x.phase (and_left (is_run x.phase) _ e.1)) p
 
 start_no_last : (p : PhaseState) (mark : Option ℕ) → start_is_early p mark ≡ false → is_last p ≡ false
 start_no_last run mark e = refl
@@ -259,7 +259,7 @@ step_told coder c t (claims b rest k r n o j p d (runs x xs m u e)) = same_told 
 step_told coder c t (finishes r x y job ends s w) = ended_told c _ job.source x y job.runs t ends s
 step_told coder c t (faults r x y job ends s) = ended_told c _ job.source x y job.runs t ends s
 
-told_at : (coder : Coder) (events : List SoloEvent) (e : SoloEvent) (c y : Context) → IsSound c → IsTidy c → (solo_step coder (Some c) e).slot ≡ Some y → Told c y
+told_at : (coder : Coder) (events : List SoloEvent) (e : SoloEvent) (c y : Context) → IsOrdered c → IsTidy c → (solo_step coder (Some c) e).slot ≡ Some y → Told c y
 unfolding ToldSlot
 told_at coder events e c y s t next = subst (ToldSlot c) next (step_told coder c t (step_of coder c e s))
 
@@ -271,7 +271,7 @@ ends_with c y (with_last front b d l f g n) =
 
 pub last_is_told : LastIsTold
 last_is_told coder events e before after at next =
-    ends_with before after (told_at coder events e before after (subst IsSoundSlot at (always_sound coder events)) (always_tidy coder events before at) next)
+    ends_with before after (told_at coder events e before after (subst IsOrderedSlot at (always_ordered coder events)) (always_tidy coder events before at) next)
 
 -- Everything went back
 
@@ -287,8 +287,8 @@ drain_is_last (stopped cause) e = refl
 
 pub all_went_back : AllWentBack
 all_went_back coder events e before after at next g =
-    let s : IsSound before = subst IsSoundSlot at (always_sound coder events) in
-    let sound : IsSound after = subst IsSoundSlot next (step_sound coder (Some before) e s) in
+    let s : IsOrdered before = subst IsOrderedSlot at (always_ordered coder events) in
+    let sound : IsOrdered after = subst IsOrderedSlot next (step_sound coder (Some before) e s) in
     let none = idle after sound.firm (drain_is_last after.phase (and_left (is_last_by_drain after.phase) _ g)) in
     record {
       no_job = none.0;
@@ -316,7 +316,7 @@ over_settled : (x y : Context) → is_over x.phase ≡ true → Settles x y → 
 over_settled x y o still = refl
 over_settled x y o (owes p r) = absurd (false≢true (sym (over_stops x.phase o) ∙ and_left (is_run x.phase) _ p))
 over_settled x y o (gives cause b rest events r p) =
-    absurd (⊎_elim (λ (e : x.phase ≡ owe cause). over_owes x.phase cause o e) (λ (e : (cause ≡ drain) × (is_put_off x ≡ true)). false≢true (sym (over_stops x.phase o) ∙ and_left (is_run x.phase) _ e.1)) p)
+    absurd (⊎_elim (λ (e : x.phase ≡ owe cause). over_owes x.phase cause o e) (λ (e : (cause ≡ drain) × (drain_not_noted x ≡ true)). false≢true (sym (over_stops x.phase o) ∙ and_left (is_run x.phase) _ e.1)) p)
 
 over_off : (p : PhaseState) → is_over p ≡ true → is_run (without_drain_stop p) ≡ true
 over_off run e = absurd (false≢true e)
@@ -368,7 +368,7 @@ undrained : (ready : List Buffer) (mark : Option ℕ) → mark ≡ None → is_d
 undrained ready None e = refl
 undrained ready (Some m) e = absurd (cc)
 
-put_off_drained : (x : Context) → is_put_off x ≡ true → is_drained x.out.ready x.mark ≡ true
+put_off_drained : (x : Context) → drain_not_noted x ≡ true → is_drained x.out.ready x.mark ≡ true
 put_off_drained x p = and_right (is_none x.running) _ (and_right x.cap.streams _ (and_right (is_run x.phase) _ p))
 
 started_nothing : (c y : Context) → c.mark ≡ None → Settles (record c { phase = run }) y → NothingSlot c (Some y)
@@ -377,9 +377,9 @@ started_nothing c y m still r = absurd (false≢true (sym r))
 started_nothing c y m (owes p e) r =
     absurd (false≢true (sym (undrained c.out.ready c.mark m) ∙ put_off_drained (record c { phase = run }) p))
 started_nothing c y m (gives cause b rest events e p) r =
-    absurd (⊎_elim (λ (q : run ≡ owe cause). false≢true (sym (ap is_run q))) (λ (q : (cause ≡ drain) × (is_put_off (record c { phase = run }) ≡ true)). false≢true (sym (undrained c.out.ready c.mark m) ∙ put_off_drained (record c { phase = run }) q.1)) p)
+    absurd (⊎_elim (λ (q : run ≡ owe cause). false≢true (sym (ap is_run q))) (λ (q : (cause ≡ drain) × (drain_not_noted (record c { phase = run }) ≡ true)). false≢true (sym (undrained c.out.ready c.mark m) ∙ put_off_drained (record c { phase = run }) q.1)) p)
 
-effect_nothing : (c : Context) {request : Call} {bytes : List ℕ} {reply : Reply} {slot : Slot} → is_over c.phase ≡ true → IsSound c → IsTidy c → Effect c request bytes reply slot → NothingSlot c slot
+effect_nothing : (c : Context) {request : Call} {bytes : List ℕ} {reply : Reply} {slot : Slot} → is_over c.phase ≡ true → IsOrdered c → IsTidy c → Effect c request bytes reply slot → NothingSlot c slot
 effect_nothing c o f t (stays n) = same_nothing c c refl refl t
 effect_nothing c o f t (closes n) = closed_nothing c
 effect_nothing c o f t (has_events events n) = same_nothing c _ refl refl t
@@ -403,7 +403,7 @@ effect_nothing c o f t (rests_cap n a) = off_nothing c _ (f.firm.stopping (over_
 effect_nothing c o f t (sets_mark y n i b m d s) = over_nothing c _ y refl refl o t s
 effect_nothing c o f t (starts y n i b e s) = started_nothing c y (t.unmarked (unmarked_start c.phase c.mark o e)) s
 
-step_nothing : (coder : Coder) (c : Context) {e : SoloEvent} {told : SoloReply} {slot : Slot} → is_over c.phase ≡ true → IsSound c → IsTidy c → Step coder c e told slot → NothingSlot c slot
+step_nothing : (coder : Coder) (c : Context) {e : SoloEvent} {told : SoloReply} {slot : Slot} → is_over c.phase ≡ true → IsOrdered c → IsTidy c → Step coder c e told slot → NothingSlot c slot
 step_nothing coder c o f t (calls e) = effect_nothing c o f t e
 step_nothing coder c o f t rests = same_nothing c c refl refl t
 step_nothing coder c o f t (lacks_job n) = same_nothing c c refl refl t
@@ -414,7 +414,7 @@ step_nothing coder c o f t (faults r x y job ends s) = no_longer (is_run c.phase
 pub nothing_after_last : NothingAfterLast
 unfolding NothingSlot
 nothing_after_last coder events e before after at next o =
-    let s : IsSound before = subst IsSoundSlot at (always_sound coder events) in
+    let s : IsOrdered before = subst IsOrderedSlot at (always_ordered coder events) in
     subst (NothingSlot before) next (step_nothing coder before o s (always_tidy coder events before at) (step_of coder before e s))
 
 -- The ended queue
@@ -432,7 +432,7 @@ pipe_of q taken s e =
 pub ended_refuses : EndedQueueRefuses
 unfolding answer context_answer
 ended_refuses coder events c at e block bytes found =
-    let s : IsSound c = subst IsSoundSlot at (always_sound coder events) in
+    let s : IsOrdered c = subst IsOrderedSlot at (always_ordered coder events) in
     ap (λ o. (unless_or_block c o block (taken_answer c Cap c.cap.done)).reply) (pipe_of c.cap (is_stopped c.phase) (s.firm.stopping (stopped_no_run c.phase e)) e)
 
 -- Changes of the resolution
@@ -490,7 +490,7 @@ change_settled c x y d n p o t still r = inl (made_now c x [] (made_same c x d t
 change_settled c x y d n p o t (owes q e) r =
     no_longer (is_run c.phase) (ap is_run (sym p) ∙ and_left (is_run x.phase) _ q) (change_stops c.phase o)
 change_settled c x y d n p o t (gives cause b rest events e q) r =
-    inr (one_last c x cause b rest d n t y refl (inl (⊎_elim (λ (w : x.phase ≡ owe cause). owed_change c.phase cause (sym p ∙ w) o) (λ (w : (cause ≡ drain) × (is_put_off x ≡ true)). no_longer (is_run c.phase) (ap is_run (sym p) ∙ and_left (is_run x.phase) _ w.1) (change_stops c.phase o)) q)))
+    inr (one_last c x cause b rest d n t y refl (inl (⊎_elim (λ (w : x.phase ≡ owe cause). owed_change c.phase cause (sym p ∙ w) o) (λ (w : (cause ≡ drain) × (drain_not_noted x ≡ true)). no_longer (is_run c.phase) (ap is_run (sym p) ∙ and_left (is_run x.phase) _ w.1) (change_stops c.phase o)) q)))
 
 start_stopped : (p : PhaseState) (mark : Option ℕ) → stops_by_change p ≡ true → start_is_early p mark ≡ false → is_stopped p ≡ true
 start_stopped run mark o e = absurd (false≢true o)
@@ -509,7 +509,7 @@ unfolding ChangeSlot
 change_started c y o t still r = absurd (false≢true (sym r))
 change_started c y o t (owes p e) r = inl (made_now c (record c { phase = owe drain }) [] (made_same c (record c { phase = owe drain }) refl t))
 change_started c y o t (gives cause b rest events e p) r =
-    inr (one_last c (record c { phase = run }) cause b rest refl refl t y refl (inr (⊎_elim (λ (q : run ≡ owe cause). absurd (false≢true (sym (ap is_run q)))) (λ (q : (cause ≡ drain) × (is_put_off (record c { phase = run }) ≡ true)). (o, stopped_new c.phase cause o q.0)) p)))
+    inr (one_last c (record c { phase = run }) cause b rest refl refl t y refl (inr (⊎_elim (λ (q : run ≡ owe cause). absurd (false≢true (sym (ap is_run q)))) (λ (q : (cause ≡ drain) × (drain_not_noted (record c { phase = run }) ≡ true)). (o, stopped_new c.phase cause o q.0)) p)))
 
 effect_change : (c : Context) {request : Call} {bytes : List ℕ} {reply : Reply} {slot : Slot} → stops_by_change c.phase ≡ true → IsTidy c → Effect c request bytes reply slot → ChangeSlot c slot
 effect_change c o t (stays n) = no_done c c refl t
@@ -546,7 +546,7 @@ step_change coder c o t (faults r x y job ends s) = no_longer (is_run c.phase) j
 pub stops_by_a_change : StopsByChange
 unfolding ChangeSlot
 stops_by_a_change coder events e before after at next o =
-    let s : IsSound before = subst IsSoundSlot at (always_sound coder events) in
+    let s : IsOrdered before = subst IsOrderedSlot at (always_ordered coder events) in
     subst (ChangeSlot before) next (step_change coder before o (always_tidy coder events before at) (step_of coder before e s))
 
 -- The run that finds a change
@@ -573,7 +573,7 @@ halt_settled c x y d n r p t still =
 halt_settled c x y d n r p t (owes q e) = absurd (false≢true (ap is_run (sym p) ∙ and_left (is_run x.phase) _ q))
 halt_settled c x y d n r p t (gives cause b rest events e q) =
     let z : Buffer = record b { used = 0; bytes = known_bytes x.cap.side last_flag []; flags = last_flag; stamp = zero_stamp; seq = x.cap.next_seq } in
-    let by : not (is_drain cause) ≡ true = ⊎_elim (λ (w : x.phase ≡ owe cause). ap stops_by_change (sym w ∙ p)) (λ (w : (cause ≡ drain) × (is_put_off x ≡ true)). absurd (false≢true (ap is_run (sym p) ∙ and_left (is_run x.phase) _ w.1))) q in
+    let by : not (is_drain cause) ≡ true = ⊎_elim (λ (w : x.phase ≡ owe cause). ap stops_by_change (sym w ∙ p)) (λ (w : (cause ≡ drain) × (drain_not_noted x ≡ true)). absurd (false≢true (ap is_run (sym p) ∙ and_left (is_run x.phase) _ w.1))) q in
     record { stops = by; done = inr (z, made_now c y (z ∷ []) (made_more c x y [] z refl (omega arith) (made_same c x d t)), refl, by_change c.phase r by) }
   where
     by_change : (p : PhaseState) → is_run p ≡ true → not (is_drain cause) ≡ true → (not (is_drain cause) && not (is_last_by_change p)) ≡ true
@@ -629,5 +629,5 @@ step_first coder c {e = e} {told = told} {slot = slot} t (faults r x y job ends 
 pub changes_stop : ChangesStop
 unfolding FirstSlot
 changes_stop coder events e before after at next =
-    let s : IsSound before = subst IsSoundSlot at (always_sound coder events) in
+    let s : IsOrdered before = subst IsOrderedSlot at (always_ordered coder events) in
     subst (FirstSlot before e (solo_step coder (Some before) e).told) next (step_first coder before (always_tidy coder events before at) (step_of coder before e s))

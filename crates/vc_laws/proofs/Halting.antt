@@ -10,10 +10,10 @@ use Rattle.vc_model.specs.Context.{Context, Slot, Running, drain, change, PhaseS
 use Rattle.vc_model.specs.Answer.{without_drain_stop}
 use Rattle.vc_model.specs.Runs.{JobData, job_data, RunResult, copied, encoded, decoded, run_result}
 use Rattle.vc_model.specs.Solo.{SoloEvent, Called, Claims, Finishes, SoloReply, Answered, solo_step, solo_slot}
-use Rattle.vc_model.specs.Sound.{is_put_off, IsSound, IsSoundSlot}
+use Rattle.vc_model.specs.Sound.{drain_not_noted, IsOrdered, IsOrderedSlot}
 use Rattle.vc_model.specs.Drains.{done_now}
 use Rattle.vc_model.proofs.Tests.{and_left}
-use Rattle.vc_model.proofs.Ending.{always_sound}
+use Rattle.vc_model.proofs.Ending.{always_ordered}
 use Rattle.vc_laws.specs.Segments.{Segment, fresh_segment, resets, after_run, after_job, after_event, segment_of_step, segment_of, segment_step, sources_added}
 use Rattle.vc_laws.specs.Following.{OneForOne, in_buffers, by_runs}
 use Rattle.vc_laws.specs.Drains.{is_last_by_change, gives_change, ResultsBeforeChange}
@@ -123,7 +123,7 @@ run_gift c x y e told r still = no_gift c x e told (in_run x.phase r)
     in_run (stopped cause) e = refl
 run_gift c x y e told r (owes p q) = no_gift c y e told refl
 run_gift c x y e told r (gives cause b rest events q p) =
-    no_gift c y e told (⊎_elim (λ (o : x.phase ≡ owe cause). absurd (false≢true (ap is_run (sym o) ∙ r))) (λ (o : (cause ≡ drain) × (is_put_off x ≡ true)). ap (λ z. not (is_drain z)) o.0) p)
+    no_gift c y e told (⊎_elim (λ (o : x.phase ≡ owe cause). absurd (false≢true (ap is_run (sym o) ∙ r))) (λ (o : (cause ≡ drain) × (drain_not_noted x ≡ true)). ap (λ z. not (is_drain z)) o.0) p)
 
 returned_done : (q k : QueueState) → Returns q k → (k.done ≡ q.done) × (k.next_seq ≡ q.next_seq)
 returned_done q k (none_taken j) = (refl, refl)
@@ -185,7 +185,7 @@ kind_after c y p q = p ∙ q
 pub results_before_change : ResultsBeforeChange
 unfolding GiftAt
 results_before_change events e before after at next k g =
-    let s : IsSound before = subst IsSoundSlot at (always_sound the_coder events) in
+    let s : IsOrdered before = subst IsOrderedSlot at (always_ordered the_coder events) in
     let t = always_tidy the_coder events before at in
     let step = step_of the_coder before e s in
     let told = (solo_step the_coder (Some before) e).told in

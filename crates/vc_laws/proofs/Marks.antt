@@ -8,9 +8,9 @@ use Rattle.vc_model.specs.Context.{Context, Slot, Cause, drain, change, PhaseSta
 use Rattle.vc_model.specs.Answer.{mark_after_restart}
 use Rattle.vc_model.specs.Runs.{JobData, RunResult}
 use Rattle.vc_model.specs.Solo.{SoloEvent, Called, SoloReply, Answered, solo_step}
-use Rattle.vc_model.specs.Sound.{IsSound, IsSoundSlot}
+use Rattle.vc_model.specs.Sound.{IsOrdered, IsOrderedSlot}
 use Rattle.vc_model.proofs.Tests.{and_both}
-use Rattle.vc_model.proofs.Ending.{always_sound}
+use Rattle.vc_model.proofs.Ending.{always_ordered}
 use Rattle.vc_laws.specs.Drains.{is_stop, is_stop_call, DrainsBeginAtStop, MarksStay, aborts_drain, is_off, AbortedByOff}
 use Rattle.vc_model.specs.Drains.{is_last_by_drain, takes_capture}
 use Rattle.std.proofs.lemmas.Bool.{false≢true}
@@ -89,17 +89,17 @@ step_mark coder c (claims b rest k r n o j p d q) = inl refl
 step_mark coder c (finishes r x y job ends s w) = inl (settled_mark x y s ∙ ended_mark c _ job.source x ends)
 step_mark coder c (faults r x y job ends s) = inl (settled_mark x y s ∙ ended_mark c _ job.source x ends)
 
-mark_at : (coder : Coder) (c y : Context) (e : SoloEvent) → IsSound c → (solo_step coder (Some c) e).slot ≡ Some y → MarkIs c e (solo_step coder (Some c) e).told y.mark
+mark_at : (coder : Coder) (c y : Context) (e : SoloEvent) → IsOrdered c → (solo_step coder (Some c) e).slot ≡ Some y → MarkIs c e (solo_step coder (Some c) e).told y.mark
 unfolding MarkAfter
 mark_at coder c y e s next = subst (MarkAfter c e (solo_step coder (Some c) e).told) next (step_mark coder c (step_of coder c e s))
 
 pub drains_begin : DrainsBeginAtStop
 drains_begin coder events e before after at next mark none some =
-    ⊎_elim (λ (p : after.mark ≡ before.mark). absurd (let q : None ≡ Some mark = sym none ∙ (sym p ∙ some) in cc)) (λ (p : (after.mark ≡ None) ⊎ ((before.mark ≡ None) × (after.mark ≡ Some before.out.next_ordinal) × (is_stop e (solo_step coder (Some before) e).told ≡ true))). ⊎_elim (λ (q : after.mark ≡ None). absurd (let t : None ≡ Some mark = sym q ∙ some in cc)) (λ (q : (before.mark ≡ None) × (after.mark ≡ Some before.out.next_ordinal) × (is_stop e (solo_step coder (Some before) e).told ≡ true)). (q.2, (let t : Some mark ≡ Some before.out.next_ordinal = sym some ∙ q.1 in cc))) p) (mark_at coder before after e (subst IsSoundSlot at (always_sound coder events)) next)
+    ⊎_elim (λ (p : after.mark ≡ before.mark). absurd (let q : None ≡ Some mark = sym none ∙ (sym p ∙ some) in cc)) (λ (p : (after.mark ≡ None) ⊎ ((before.mark ≡ None) × (after.mark ≡ Some before.out.next_ordinal) × (is_stop e (solo_step coder (Some before) e).told ≡ true))). ⊎_elim (λ (q : after.mark ≡ None). absurd (let t : None ≡ Some mark = sym q ∙ some in cc)) (λ (q : (before.mark ≡ None) × (after.mark ≡ Some before.out.next_ordinal) × (is_stop e (solo_step coder (Some before) e).told ≡ true)). (q.2, (let t : Some mark ≡ Some before.out.next_ordinal = sym some ∙ q.1 in cc))) p) (mark_at coder before after e (subst IsOrderedSlot at (always_ordered coder events)) next)
 
 pub marks_stay : MarksStay
 marks_stay coder events e before after at next mark some =
-    ⊎_elim (λ (p : after.mark ≡ before.mark). inl (p ∙ some)) (λ (p : (after.mark ≡ None) ⊎ ((before.mark ≡ None) × (after.mark ≡ Some before.out.next_ordinal) × (is_stop e (solo_step coder (Some before) e).told ≡ true))). ⊎_elim (λ (q : after.mark ≡ None). inr q) (λ (q : (before.mark ≡ None) × (after.mark ≡ Some before.out.next_ordinal) × (is_stop e (solo_step coder (Some before) e).told ≡ true)). absurd (let t : None ≡ Some mark = sym q.0 ∙ some in cc)) p) (mark_at coder before after e (subst IsSoundSlot at (always_sound coder events)) next)
+    ⊎_elim (λ (p : after.mark ≡ before.mark). inl (p ∙ some)) (λ (p : (after.mark ≡ None) ⊎ ((before.mark ≡ None) × (after.mark ≡ Some before.out.next_ordinal) × (is_stop e (solo_step coder (Some before) e).told ≡ true))). ⊎_elim (λ (q : after.mark ≡ None). inr q) (λ (q : (before.mark ≡ None) × (after.mark ≡ Some before.out.next_ordinal) × (is_stop e (solo_step coder (Some before) e).told ≡ true)). absurd (let t : None ≡ Some mark = sym q.0 ∙ some in cc)) p) (mark_at coder before after e (subst IsOrderedSlot at (always_ordered coder events)) next)
 
 -- Drains that are aborted
 
@@ -179,4 +179,4 @@ step_off coder c (faults r x y job ends s) =
 pub aborted_by_off : AbortedByOff
 unfolding OffSlot
 aborted_by_off coder events e before at =
-    step_off coder before (step_of coder before e (subst IsSoundSlot at (always_sound coder events)))
+    step_off coder before (step_of coder before e (subst IsOrderedSlot at (always_ordered coder events)))

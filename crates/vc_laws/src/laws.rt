@@ -2,7 +2,6 @@
 
 ghost use Rattle.vc_laws.specs.Drains.{AbortedByOff, AllWentBack, ChangesStop, DrainsAreWhole, DrainsBeginAtStop, DrainsGiveAll, EndedQueueRefuses, FrameAfterChange, LastIsTold, MarksStay, NothingAfterLast, ResultsBeforeChange, SameDrainsSameResults, StopsByChange};
 ghost use Rattle.vc_laws.specs.Following.{EncoderFollows, Follows, RetiredAreResults, SegmentsBegin};
-ghost use Rattle.vc_defs.specs.Laws.{Resuming};
 
 /// A drain begins at a STOP alone, and its mark is the number of OUTPUT buffers queued before it.
 pub fn drains_begin_at_stop()
@@ -74,26 +73,22 @@ pub fn results_before_change()
     ensures { ResultsBeforeChange }
 {}
 
-/// The results of a decoder's segment are the sequential decoder's for the bytes that its runs consumed. This is
-/// conditional: it rests on the law of resuming of the coded format, which it takes as a premise.
-pub fn follows_if_resuming()
-    ensures { Resuming → Follows }
+/// The results of a decoder's segment are the sequential decoder's for the bytes that its runs consumed.
+pub fn follows()
+    ensures { Follows }
 {}
 
-/// Where a decoder gives the LAST buffer of a drain, all results of the segment's bytes were given. This is conditional:
-/// it rests on the law of resuming of the coded format, which it takes as a premise.
-pub fn drains_give_all_if_resuming()
-    ensures { Resuming → DrainsGiveAll }
+/// Where a decoder gives the LAST buffer of a drain, all results of the segment's bytes were given.
+pub fn drains_give_all()
+    ensures { DrainsGiveAll }
 {}
 
-/// The next result of a segment after a change is that of the frame that raised it. This is conditional: it rests on the
-/// law of resuming of the coded format, which it takes as a premise.
-pub fn frame_after_change_if_resuming()
-    ensures { Resuming → FrameAfterChange }
+/// The next result of a segment after a change is that of the frame that raised it.
+pub fn frame_after_change()
+    ensures { FrameAfterChange }
 {}
 
-/// Neither schedule nor cutting matters to a finished drain. This is conditional: it rests on the law of resuming of the
-/// coded format, which it takes as a premise.
-pub fn same_drains_if_resuming()
-    ensures { Resuming → SameDrainsSameResults }
+/// Neither schedule nor cutting matters to a finished drain.
+pub fn same_drains()
+    ensures { SameDrainsSameResults }
 {}
