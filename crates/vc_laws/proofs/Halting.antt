@@ -16,7 +16,8 @@ use Rattle.vc_model.proofs.Tests.{and_left}
 use Rattle.vc_model.proofs.Ending.{always_ordered}
 use Rattle.vc_laws.specs.Segments.{Segment, fresh_segment, resets, after_run, after_job, after_event, segment_of_step, segment_of, segment_step, sources_added}
 use Rattle.vc_laws.specs.Following.{OneForOne, in_buffers, by_runs}
-use Rattle.vc_laws.specs.Drains.{is_last_by_change, gives_change, ResultsBeforeChange}
+use Rattle.vc_model.specs.LastBuffers.{is_last_by_change, gives_change}
+use Rattle.vc_laws.specs.Drains.{ResultsBeforeChange}
 use Rattle.vc_laws.proofs.Effects.{Settles, still, owes, gives, Effect, stays, closes, has_events, has_rates, has_out_format, has_cap_format, has_out_buffers, has_cap_buffers, adds_out, adds_cap, queues_out, queues_cap, takes_out, takes_cap, takes_last, streams_out, streams_cap, stops_out, stops_cap, rests_cap, sets_mark, starts}
 use Rattle.vc_laws.proofs.Steps.{Ends, alone, kept, ended, halts, spends, Returns, none_taken, given_back, Step, calls, rests, lacks_job, claims, finishes, faults, step_of}
 use Rattle.vc_laws.proofs.Tidy.{IsTidy, always_tidy, KindSlot, step_kind}

@@ -1,6 +1,8 @@
-//! Laws over the runs of one slot, proved from the definitions alone.
+//! Laws over the runs of one slot, proved from the definitions alone. Their subjects are "Drain", "Seek" and "Dynamic
+//! Resolution Change" of the memory-to-memory stateful video decoder interface, and "Drain" of the stateful video encoder
+//! interface, in the Linux userspace API documentation.
 
-ghost use Rattle.vc_laws.specs.Drains.{AbortedByOff, AllWentBack, ChangesStop, DrainsAreWhole, DrainsBeginAtStop, DrainsGiveAll, EndedQueueRefuses, FrameAfterChange, LastIsTold, MarksStay, NothingAfterLast, ResultsBeforeChange, SameDrainsSameResults, StopsByChange};
+ghost use Rattle.vc_laws.specs.Drains.{AbortedByOff, AllWentBack, ChangesStop, DrainsAreWhole, DrainsBeginAtStop, DrainsGiveAll, FrameAfterChange, MarksStay, NothingAfterLast, ResultsBeforeChange, SameDrainsSameResults, StopsByChange};
 ghost use Rattle.vc_laws.specs.Following.{EncoderFollows, Follows, RetiredAreResults, SegmentsBegin};
 
 /// A drain begins at a STOP alone, and its mark is the number of OUTPUT buffers queued before it.
@@ -18,11 +20,6 @@ pub fn aborted_by_off()
     ensures { AbortedByOff }
 {}
 
-/// LAST is told by the flag of exactly one buffer, the final one that goes to done in the step that gives it.
-pub fn last_is_told()
-    ensures { LastIsTold }
-{}
-
 /// After the LAST buffer of a drain no CAPTURE buffer goes to done before the phase is Run again.
 pub fn nothing_after_last()
     ensures { NothingAfterLast }
@@ -31,11 +28,6 @@ pub fn nothing_after_last()
 /// Where the LAST buffer of a drain is given no job is left, and it is the latest that went to done.
 pub fn all_went_back()
     ensures { AllWentBack }
-{}
-
-/// After the LAST buffer was taken DqBuf on CAPTURE answers EPIPE.
-pub fn ended_queue_refuses()
-    ensures { EndedQueueRefuses }
 {}
 
 /// While a decoder stops by a change no CAPTURE buffer goes to done but one empty LAST buffer.
