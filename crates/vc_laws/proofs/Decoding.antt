@@ -19,7 +19,7 @@ use Rattle.vc_model.specs.Context.{decode as decode_sort}
 use Rattle.vc_model.specs.Answer.{answer, closed_answer, mark_after_restart}
 use Rattle.vc_model.specs.Runs.{front_is_due, sort_of, running_of, source_of, JobData, job_data, RunResult, decoded, run_result, run_of, decode_run}
 use Rattle.vc_model.specs.Solo.{SoloEvent, Called, Claims, Finishes, SoloReply, Answered, Claimed, Finished, solo_step, solo_slot}
-use Rattle.vc_model.specs.Sound.{CountsUp, HasCodec, dest_count, IsSound, IsSoundSlot}
+use Rattle.vc_model.specs.Sound.{CountsUp, HasCodec, dest_count, IsOrdered, IsOrderedSlot}
 use Rattle.vc_model.specs.Drains.{done_now}
 use Rattle.vc_laws.specs.Segments.{Segment, fresh_segment, call_resets, call_adds, first_of, with_result, is_change, is_change_kind, tail_length, after_run, after_decode, segment_of_step, segment_of_slots, segment_step, segment_of}
 use Rattle.vc_laws.specs.Following.{OneForOne, in_buffers, is_by_run, by_runs}
@@ -198,7 +198,7 @@ then_decoder seg c x y request bytes found reply handed r e k g f o p u h =
     let t = settled_decoder x y u in
     called_decoder seg c y request bytes found reply handed r e (t.0 ∙ k) (t.1 ∙ g) (ap (λ z. z.out) (t.2 ∙ f)) (λ n. subst (λ q. buffer_count q ≤ 0) (t.3 ∙ o) n) (λ d. ap (λ q. front_is_due (q.job ++ q.ready) y.mark) (t.3 ∙ o) ∙ (ap (λ m. front_is_due (c.out.job ++ c.out.ready) m) t.4 ∙ p d)) h
 
-effect_decoder : (seg : Segment) (c : Context) {request : Call} {bytes : List ℕ} {reply : Reply} {slot : Slot} (found : Bool) (handed : List ℕ) → IsSound c → IsTidy c → c.kind ≡ Dec → IsDecoding seg c → Effect c request bytes reply slot → NoRuns c slot → DecoderAt slot (segment_of_slots the_coder seg (Some c) slot (Called request bytes found) (Answered reply handed))
+effect_decoder : (seg : Segment) (c : Context) {request : Call} {bytes : List ℕ} {reply : Reply} {slot : Slot} (found : Bool) (handed : List ℕ) → IsOrdered c → IsTidy c → c.kind ≡ Dec → IsDecoding seg c → Effect c request bytes reply slot → NoRuns c slot → DecoderAt slot (segment_of_slots the_coder seg (Some c) slot (Called request bytes found) (Answered reply handed))
 effect_decoder seg c {request = request} {bytes = bytes} {reply = reply} found handed s t k h (stays p) e =
     called_decoder seg c c request bytes found reply handed p.no_reset e refl refl refl (λ n. n) (λ d. d) h
 effect_decoder seg c found handed s t k h (closes p) e = closed_decoder _
@@ -396,7 +396,7 @@ given_then_blank : (step : DecodedStep) (o : Option FrameResult) (g : Option Geo
 given_then_blank step None g h e n = blank_reference step (h n) None e refl
 given_then_blank step (Some f) g h e n = kind_then step f f.kind g h e refl n
 
-finish_decoder : (seg : Segment) (c : Context) (r : Running) (job : HasJob c r) (x y : Context) (word : List ℕ) → IsSound c → IsTidy c → c.kind ≡ Dec → IsDecoding seg c → Ends c (job_data c r) job.source (Some (run_result the_coder (job_data c r))) x → Settles x y → IsDecoding (segment_of_step the_coder seg c y (Finishes false) (Finished word)) y
+finish_decoder : (seg : Segment) (c : Context) (r : Running) (job : HasJob c r) (x y : Context) (word : List ℕ) → IsOrdered c → IsTidy c → c.kind ≡ Dec → IsDecoding seg c → Ends c (job_data c r) job.source (Some (run_result the_coder (job_data c r))) x → Settles x y → IsDecoding (segment_of_step the_coder seg c y (Finishes false) (Finished word)) y
 finish_decoder seg c r job x y word s t k h ends u =
     let j = job_data c r in
     let run : IsRunOf c r = subst (HasRun c) job.running t.run in
@@ -436,7 +436,7 @@ finish_decoder seg c r job x y word s t k h ends u =
     first_limit seg c r t h None e q f = ap (λ z. z.limit) (let same : q ≡ r = cc in same) ∙ t.limit
     first_limit seg c r t h (Some p) e q f = ap (λ z. z.limit) (let same : q ≡ p = cc in same) ∙ h.limit p e
 
-fault_decoder : (seg : Segment) (c : Context) (j : JobData) (b : Buffer) (x y : Context) (word : List ℕ) → IsSound c → c.kind ≡ Dec → Ends c j b None x → Settles x y → IsDecoding (segment_of_step the_coder seg c y (Finishes true) (Finished word)) y
+fault_decoder : (seg : Segment) (c : Context) (j : JobData) (b : Buffer) (x y : Context) (word : List ℕ) → IsOrdered c → c.kind ≡ Dec → Ends c j b None x → Settles x y → IsDecoding (segment_of_step the_coder seg c y (Finishes true) (Finished word)) y
 fault_decoder seg c j b x y word s k ends u =
     anew y y.out.ready (reset_is c y.codec k s.firm.has_codec ((settled_decoder x y u).0 ∙ (faulted_codec c j b x refl ends).2))
 
@@ -449,7 +449,7 @@ rests_decoder : (seg : Segment) (c : Context) → IsTidy c → IsDecoding seg c 
 rests_decoder seg c t h =
     carried seg c c (seg.sources ++ []) (seg.retired ++ done_now c c) refl refl refl (λ n. n) (λ d. d) (retired_more seg.retired (done_now c c) (quiet_runs c c refl t)) h
 
-step_decoder : (seg : Segment) (c : Context) {e : SoloEvent} {told : SoloReply} {slot : Slot} → IsSound c → IsTidy c → c.kind ≡ Dec → IsDecoding seg c → Step the_coder c e told slot → DecoderAt slot (segment_of_slots the_coder seg (Some c) slot e told)
+step_decoder : (seg : Segment) (c : Context) {e : SoloEvent} {told : SoloReply} {slot : Slot} → IsOrdered c → IsTidy c → c.kind ≡ Dec → IsDecoding seg c → Step the_coder c e told slot → DecoderAt slot (segment_of_slots the_coder seg (Some c) slot e told)
 step_decoder seg c s t k h (calls {found = found} {handed = handed} f) =
     effect_decoder seg c found handed s t k h f (effect_runs c t f)
 step_decoder seg c s t k h rests = is_decoder c _ (rests_decoder seg c t h)
@@ -477,7 +477,7 @@ unfolding DecoderAt KindSlot
 of_decoders c None seg k f = tt
 of_decoders c (Some y) seg k f = λ q. f (sym k ∙ q) q
 
-slot_decoder : (seg : Segment) (s : Slot) (e : SoloEvent) → IsSoundSlot s → TidySlot s → DecoderAt s seg → DecoderAt (solo_step the_coder s e).slot (segment_of_slots the_coder seg s (solo_step the_coder s e).slot e (solo_step the_coder s e).told)
+slot_decoder : (seg : Segment) (s : Slot) (e : SoloEvent) → IsOrderedSlot s → TidySlot s → DecoderAt s seg → DecoderAt (solo_step the_coder s e).slot (segment_of_slots the_coder seg s (solo_step the_coder s e).slot e (solo_step the_coder s e).told)
 unfolding solo_step answer DecoderAt
 slot_decoder seg None (Called request bytes found) h t w = open_decoder seg request bytes found
 slot_decoder seg None Claims h t w = tt
@@ -492,7 +492,7 @@ slot_decoder seg (Some c) (Finishes fault) h t w =
     let q = step_of the_coder c (Finishes fault) h in
     of_decoders c _ _ (step_kind the_coder c q) (λ k. step_decoder seg c h t k (w k) q)
 
-segment_decoder : (seg : Segment) (s : Slot) (e : SoloEvent) → IsSoundSlot s → TidySlot s → DecoderAt s seg → DecoderAt (solo_step the_coder s e).slot (segment_step the_coder seg s e)
+segment_decoder : (seg : Segment) (s : Slot) (e : SoloEvent) → IsOrderedSlot s → TidySlot s → DecoderAt s seg → DecoderAt (solo_step the_coder s e).slot (segment_step the_coder seg s e)
 unfolding segment_step
 segment_decoder seg s e h t w = slot_decoder seg s e h t w
 

@@ -1,5 +1,5 @@
--- Which CAPTURE buffers go to done in a step, and which of them has LAST.
-use Rattle.std.proofs.Common.{ℕ, ◌≡◌, ◌≤◌, ◌+◌, eqb, nat_lt, nat_le, get_or, Bool, true, false, not, cond, ◌&&◌, ◌||◌, is_none, Option, Some, None, List, [], ◌∷◌, ◌++◌, refl, sym, ap, ◌∙◌, subst, arith, ◌⊎◌, inl, inr, ⊎_elim}
+-- Which CAPTURE buffers go to done in a step.
+use Rattle.std.proofs.Common.{ℕ, ◌≡◌, ◌≤◌, ◌+◌, eqb, nat_lt, nat_le, get_or, Bool, true, false, not, cond, ◌&&◌, is_none, Option, Some, None, List, [], ◌∷◌, ◌++◌, refl, sym, ap, ◌∙◌, subst, arith, ◌⊎◌, inl, inr, ⊎_elim}
 use Rattle.std.specs.Prelude.{bit_and, codes}
 use Rattle.std.specs.List.{filter, list_all}
 use Rattle.std.proofs.lemmas.Bool.{false≢true, ltb-true, le-leb, leb-true}
@@ -10,24 +10,24 @@ use Rattle.vc_base.specs.declared.Stamp.{Stamp}
 use Rattle.vc_base.specs.declared.Fourcc.{Fourcc}
 use Rattle.vc_base.specs.declared.Side.{Side}
 use Rattle.vc_base.specs.declared.Side.TheVariants.{Out, Cap}
-use Rattle.vc_base.specs.declared.Errno.TheVariants.{Inval, Again, Pipe}
 use Rattle.vc_base.specs.declared.Call.{Call}
 use Rattle.vc_base.specs.declared.Reply.{Reply}
-use Rattle.vc_base.specs.Buffers.{Buffer, QueueState, is_empty, refuse_if, dqbuf_refusal, known_bytes, last_flag, error_flag, zero_stamp}
+use Rattle.vc_base.specs.Buffers.{Buffer, QueueState, known_bytes, last_flag, error_flag, zero_stamp}
 use Rattle.vc_defs.specs.Decoder.{outcome_of, outcome_of_result}
 use Rattle.vc_model.specs.Coder.{Coder, CodecState}
 use Rattle.vc_model.specs.Context.{Context, Slot, Cause, drain, change, PhaseState, run, owe, last, stopped, is_run, is_stopped, is_drain, is_drained}
-use Rattle.vc_model.specs.Answer.{answer, context_answer, unless_or_block, taken_answer, start_is_early, without_drain_stop, is_stopped_by_drain}
-use Rattle.vc_model.specs.Runs.{JobData, job_data, RunResult, copied, encoded, decoded, run_result, type_flag, result_word, run_word, finish_word}
+use Rattle.vc_model.specs.Answer.{start_is_early, without_drain_stop, is_stopped_by_drain}
+use Rattle.vc_model.specs.Runs.{JobData, job_data, RunResult, copied, encoded, decoded, run_result, result_word, run_word, finish_word}
 use Rattle.vc_model.specs.Solo.{SoloEvent, Called, Claims, Finishes, SoloReply, Answered, Claimed, Finished, Nothing, solo_step}
-use Rattle.vc_model.specs.Sound.{is_last, stops_by_change, is_put_off, IsSound, IsSoundSlot}
+use Rattle.vc_model.specs.Sound.{is_last, stops_by_change, drain_not_noted, IsOrdered, IsOrderedSlot}
 use Rattle.vc_model.specs.Drains.{is_last_by_drain, gives_last, done_now}
 use Rattle.vc_model.proofs.Tests.{and_left, and_right}
 use Rattle.vc_model.proofs.Firm.{idle}
-use Rattle.vc_model.proofs.Ending.{always_sound, step_sound}
-use Rattle.vc_laws.specs.Drains.{is_last_by_change, gives_change, is_flagged_last, EndsWithLast, LastIsTold, is_over, NothingAfterLast, IsNewest, AllWentBack, EndedQueueRefuses, is_owed, IsOneLast, StopsByChange, IsFirstOfStop, ChangesStop}
+use Rattle.vc_model.proofs.Ending.{always_ordered, step_sound}
+use Rattle.vc_model.specs.LastBuffers.{is_last_by_change, gives_change}
+use Rattle.vc_laws.specs.Drains.{is_over, NothingAfterLast, IsNewest, AllWentBack, is_owed, IsOneLast, StopsByChange, IsFirstOfStop, ChangesStop}
 use Rattle.vc_laws.proofs.Effects.{Settles, still, owes, gives, Effect, stays, closes, has_events, has_rates, has_out_format, has_cap_format, has_out_buffers, has_cap_buffers, adds_out, adds_cap, queues_out, queues_cap, takes_out, takes_cap, takes_last, streams_out, streams_cap, stops_out, stops_cap, rests_cap, sets_mark, starts}
-use Rattle.vc_laws.proofs.Steps.{Puts, puts_fault, puts_copy, puts_frame, puts_picture, puts_damage, Ends, alone, kept, ended, halts, spends, Returns, none_taken, given_back, probes, runs, Step, calls, rests, lacks_job, claims, finishes, faults, step_of}
+use Rattle.vc_laws.proofs.Steps.{Puts, puts_fault, puts_copy, puts_frame, puts_picture, puts_damage, Ends, alone, kept, ended, halts, spends, Returns, none_taken, given_back, Step, calls, rests, lacks_job, claims, finishes, faults, step_of}
 use Rattle.vc_laws.proofs.Tidy.{AreBelow, IsTidy, always_tidy}
 
 -- The buffers that are new
@@ -83,40 +83,9 @@ made_like c x y new e m = record { front = m.front; is = e ∙ m.is; old = m.old
 
 -- Phases
 
-abbrev gives_by : PhaseState → PhaseState → Bool
-gives_by p q =
-    (is_last_by_drain q && not (is_last_by_drain p)) || (is_last_by_change q && not (is_last_by_change p))
-
-by_none : (p q : PhaseState) → is_last q ≡ false → gives_by p q ≡ false
-by_none p run e = refl
-by_none p (owe cause) e = refl
-by_none p (last cause) e = absurd (false≢true (sym e))
-by_none p (stopped cause) e = refl
-
-by_same : (p : PhaseState) → gives_by p p ≡ false
-by_same run = refl
-by_same (owe cause) = refl
-by_same (last drain) = refl
-by_same (last change) = refl
-by_same (stopped cause) = refl
-
-by_new : (p : PhaseState) (cause : Cause) → is_last p ≡ false → gives_by p (last cause) ≡ true
-by_new run drain e = refl
-by_new run change e = refl
-by_new (owe c) drain e = refl
-by_new (owe c) change e = refl
-by_new (last c) cause e = absurd (false≢true (sym e))
-by_new (stopped c) drain e = refl
-by_new (stopped c) change e = refl
-
-by_off : (p : PhaseState) → gives_by p (without_drain_stop p) ≡ false
-by_off run = refl
-by_off (owe drain) = refl
-by_off (owe change) = refl
-by_off (last drain) = refl
-by_off (last change) = refl
-by_off (stopped drain) = refl
-by_off (stopped change) = refl
+clash : {A : Type 0} → (b : Bool) → (b && not b) ≡ true → A
+clash true e = absurd (false≢true e)
+clash false e = absurd (false≢true e)
 
 run_no_last : (p : PhaseState) → is_run p ≡ true → is_last p ≡ false
 run_no_last run e = refl
@@ -124,104 +93,28 @@ run_no_last (owe cause) e = refl
 run_no_last (last cause) e = absurd (false≢true e)
 run_no_last (stopped cause) e = refl
 
-owing_no_last : (x : Context) (cause : Cause) → (x.phase ≡ owe cause) ⊎ ((cause ≡ drain) × (is_put_off x ≡ true)) → is_last x.phase ≡ false
+run_no_drain : (p : PhaseState) → is_run p ≡ true → is_last_by_drain p ≡ false
+run_no_drain run e = refl
+run_no_drain (owe cause) e = refl
+run_no_drain (last cause) e = absurd (false≢true e)
+run_no_drain (stopped cause) e = refl
+
+owing_no_last : (x : Context) (cause : Cause) → (x.phase ≡ owe cause) ⊎ ((cause ≡ drain) × (drain_not_noted x ≡ true)) → is_last x.phase ≡ false
 owing_no_last x cause p =
-    ⊎_elim (λ (e : x.phase ≡ owe cause). ap is_last e) (λ (e : (cause ≡ drain) × (is_put_off x ≡ true)). run_no_last x.phase (and_left (is_run x.phase) _ e.1)) p
+    ⊎_elim (λ (e : x.phase ≡ owe cause). ap is_last e) (λ (e : (cause ≡ drain) × (drain_not_noted x ≡ true)). run_no_last x.phase (and_left (is_run x.phase) _ e.1)) p
 
-start_no_last : (p : PhaseState) (mark : Option ℕ) → start_is_early p mark ≡ false → is_last p ≡ false
-start_no_last run mark e = refl
-start_no_last (owe cause) mark e = refl
-start_no_last (last cause) mark e = absurd (false≢true (sym e))
-start_no_last (stopped cause) mark e = refl
+off_no_drain : (p : PhaseState) → is_last_by_drain (without_drain_stop p) ≡ false
+off_no_drain run = refl
+off_no_drain (owe drain) = refl
+off_no_drain (owe change) = refl
+off_no_drain (last drain) = refl
+off_no_drain (last change) = refl
+off_no_drain (stopped drain) = refl
+off_no_drain (stopped change) = refl
 
-halted_no_last : (streams : Bool) (p phase : PhaseState) → is_run p ≡ true → phase ≡ cond streams (owe change) p → is_last phase ≡ false
-halted_no_last true p phase r e = ap is_last e
-halted_no_last false p phase r e = ap is_last e ∙ run_no_last p r
-
--- What is told by LAST
-
-pub data Told (c y : Context) : Type 0 where
-  no_last : (new : List Buffer) → done_now c y ≡ new → filter is_flagged_last new ≡ [] → gives_by c.phase y.phase ≡ false → Told c y
-  with_last : (front : List Buffer) (b : Buffer) → done_now c y ≡ front ++ b ∷ [] → is_flagged_last b ≡ true → filter is_flagged_last front ≡ [] → gives_by c.phase y.phase ≡ true → IsNewest y.cap.done y.cap.next_seq → Told c y
-
-ToldSlot : Context → Slot → Type 0
-ToldSlot c None = Unit {0}
-ToldSlot c (Some y) = Told c y
-
-settled_told : (c x y : Context) (new : List Buffer) → Made c x new → filter is_flagged_last new ≡ [] → c.cap.next_seq ≤ x.cap.next_seq → (is_last x.phase ≡ false → is_last c.phase ≡ false) → gives_by c.phase x.phase ≡ false → Settles x y → Told c y
-settled_told c x y new m f l h g still = no_last new (made_now c x new m) f g
-settled_told c x y new m f l h g (owes p r) = no_last new (made_now c y new (made_like c x y new refl m)) f refl
-settled_told c x y new m f l h g (gives cause b rest events r p) =
-    let z : Buffer = record b { used = 0; bytes = known_bytes x.cap.side last_flag []; flags = last_flag; stamp = zero_stamp; seq = x.cap.next_seq } in
-    with_last new z (made_now c y (new ++ z ∷ []) (made_more c x y new z refl l m)) refl f (by_new c.phase cause (h (owing_no_last x cause p))) (x.cap.done, z, refl, refl)
-
-same_told : (c x : Context) → x.cap.done ≡ c.cap.done → x.phase ≡ c.phase → IsTidy c → Told c x
-same_told c x d p t =
-    no_last [] (made_now c x [] (made_same c x d t)) refl (ap (gives_by c.phase) p ∙ by_same c.phase)
-
-then_told : (c x y : Context) → x.cap.done ≡ c.cap.done → x.cap.next_seq ≡ c.cap.next_seq → x.phase ≡ c.phase → IsTidy c → Settles x y → Told c y
-then_told c x y d n p t s =
-    settled_told c x y [] (made_same c x d t) refl (omega arith) (λ e. ap is_last (sym p) ∙ e) (ap (gives_by c.phase) p ∙ by_same c.phase) s
-
-none_told : (c x : Context) → x.cap.done ≡ [] → gives_by c.phase x.phase ≡ false → Told c x
-none_told c x d g = no_last [] (made_now c x [] (made_none c x d)) refl g
-
-kept_told : (c x : Context) → x.cap.done ≡ c.cap.done → gives_by c.phase x.phase ≡ false → IsTidy c → Told c x
-kept_told c x d g t = no_last [] (made_now c x [] (made_same c x d t)) refl g
-
-rest_told : (c x : Context) (b : Buffer) (rest : List Buffer) → c.cap.done ≡ b ∷ rest → x.cap.done ≡ rest → gives_by c.phase x.phase ≡ false → IsTidy c → Told c x
-rest_told c x b rest d e g t = no_last [] (made_now c x [] (made_rest c x b rest d e t)) refl g
-
-effect_told : (c : Context) {request : Call} {bytes : List ℕ} {reply : Reply} {slot : Slot} → IsTidy c → Effect c request bytes reply slot → ToldSlot c slot
-unfolding ToldSlot
-effect_told c t (stays n) = same_told c c refl refl t
-effect_told c t (closes n) = tt
-effect_told c t (has_events events n) = same_told c _ refl refl t
-effect_told c t (has_rates rates) = same_told c _ refl refl t
-effect_told c t (has_out_format codec geometry o q k) = same_told c _ refl refl t
-effect_told c t (has_cap_format q) = same_told c _ refl refl t
-effect_told c t (has_out_buffers size codec geometry o k) = same_told c _ refl refl t
-effect_told c t (has_cap_buffers size o) =
-    none_told c _ refl (by_same c.phase)
-effect_told c t adds_out = same_told c _ refl refl t
-effect_told c t adds_cap = same_told c _ refl refl t
-effect_told c t (queues_out b e) = same_told c _ refl refl t
-effect_told c t (queues_cap b y e s) = then_told c _ y refl refl refl t s
-effect_told c t (takes_out b rest d) = same_told c _ refl refl t
-effect_told c t (takes_cap b rest d n l) =
-    rest_told c _ b rest d refl (by_same c.phase) t
-effect_told c t (takes_last b cause mark d p m) = none_told c _ refl refl
-effect_told c t streams_out = same_told c _ refl refl t
-effect_told c t (streams_cap y s) = then_told c _ y refl refl refl t s
-effect_told c t (stops_out codec n k) = kept_told c _ refl (by_off c.phase) t
-effect_told c t (stops_cap codec n o k) = none_told c _ refl refl
-effect_told c t (rests_cap n o) = none_told c _ refl (by_same c.phase)
-effect_told c t (sets_mark y n i b m d s) = then_told c _ y refl refl refl t s
-effect_told c t (starts y n i b e s) =
-    settled_told c (record c { phase = run }) y [] (made_same c (record c { phase = run }) refl t) refl (omega arith) (λ x. start_no_last c.phase c.mark e) refl s
-
--- the flags that a run gives: without LAST, and with it
-plain_type : (key : Bool) → eqb (bit_and (type_flag key) last_flag) last_flag ≡ false
-plain_type true = refl
-plain_type false = refl
-
-last_type : (key : Bool) → eqb (bit_and (type_flag key + last_flag) last_flag) last_flag ≡ true
-last_type true = refl
-last_type false = refl
-
-pub plain_flags : (c : Context) (j : JobData) (b : Buffer) (result : Option RunResult) (up : Bool) (flags cursor : ℕ) (codec : CodecState) (used : ℕ) (bytes : List ℕ) (dest_flags : ℕ) (stamp : Stamp) → Puts c j b result up flags cursor codec used bytes dest_flags stamp → eqb (bit_and dest_flags last_flag) last_flag ≡ false
-plain_flags c j b result up flags cursor codec used bytes dest_flags stamp (puts_fault k) = refl
-plain_flags c j b result up flags cursor codec used bytes dest_flags stamp (puts_copy xs k) = refl
-plain_flags c j b result up flags cursor codec used bytes dest_flags stamp (puts_frame frame k) = plain_type frame.key
-plain_flags c j b result up flags cursor codec used bytes dest_flags stamp (puts_picture step r geometry key planes e k) = plain_type key
-plain_flags c j b result up flags cursor codec used bytes dest_flags stamp (puts_damage step r e k) = refl
-
-pub last_flags : (c : Context) (j : JobData) (b : Buffer) (result : Option RunResult) (up : Bool) (flags cursor : ℕ) (codec : CodecState) (used : ℕ) (bytes : List ℕ) (dest_flags : ℕ) (stamp : Stamp) → Puts c j b result up flags cursor codec used bytes dest_flags stamp → eqb (bit_and (dest_flags + last_flag) last_flag) last_flag ≡ true
-last_flags c j b result up flags cursor codec used bytes dest_flags stamp (puts_fault k) = refl
-last_flags c j b result up flags cursor codec used bytes dest_flags stamp (puts_copy xs k) = refl
-last_flags c j b result up flags cursor codec used bytes dest_flags stamp (puts_frame frame k) = last_type frame.key
-last_flags c j b result up flags cursor codec used bytes dest_flags stamp (puts_picture step r geometry key planes e k) = last_type key
-last_flags c j b result up flags cursor codec used bytes dest_flags stamp (puts_damage step r e k) = refl
+halted_no_drain : (streams : Bool) (p phase : PhaseState) → is_run p ≡ true → phase ≡ cond streams (owe change) p → is_last_by_drain phase ≡ false
+halted_no_drain true p phase r e = ap is_last_by_drain e
+halted_no_drain false p phase r e = ap is_last_by_drain e ∙ run_no_drain p r
 
 -- in phase Last settling does nothing
 pub last_settled : (x y : Context) (cause : Cause) → x.phase ≡ last cause → Settles x y → y ≡ x
@@ -234,50 +127,81 @@ returned_done : (q k : QueueState) → Returns q k → (k.done ≡ q.done) × (k
 returned_done q k (none_taken j) = (refl, refl)
 returned_done q k (given_back d j) = (refl, refl)
 
-ended_told : (c : Context) (j : JobData) (b : Buffer) {result : Option RunResult} (x y : Context) → is_run c.phase ≡ true → IsTidy c → Ends c j b result x → Settles x y → Told c y
-ended_told c j b x y r t (alone up flags cursor codec used bytes dest_flags stamp p n) s = then_told c x y refl refl refl t s
-ended_told c j b {result = result} x y r t (kept up flags cursor codec used bytes dest_flags stamp d p n) s =
-    let z : Buffer = record d { used = used; bytes = known_bytes c.cap.side dest_flags bytes; flags = dest_flags; stamp = stamp; seq = c.cap.next_seq } in
-    settled_told c x y (z ∷ []) (made_more c c x [] z refl (omega arith) (made_same c c refl t)) (ap (λ f. cond f (z ∷ []) []) (plain_flags c j b result up flags cursor codec used bytes dest_flags stamp p)) (omega arith) (λ e. e) (by_same c.phase) s
-ended_told c j b {result = result} x y r t (ended flags cursor codec used bytes dest_flags stamp d up p u n m) s =
-    let z : Buffer = record d { used = used; bytes = known_bytes c.cap.side (dest_flags + last_flag) bytes; flags = dest_flags + last_flag; stamp = stamp; seq = c.cap.next_seq } in
-    subst (Told c) (sym (last_settled x y drain refl s)) (with_last [] z (made_now c x (z ∷ []) (made_more c c x [] z refl (omega arith) (made_same c c refl t))) (last_flags c j b result up flags cursor codec used bytes dest_flags stamp p) refl (by_new c.phase drain (run_no_last c.phase r)) (c.cap.done, z, refl, refl))
-ended_told c j b x y r t (halts step f geometry k phase events g e q p) s =
-    let d = returned_done c.cap k q in
-    let l = halted_no_last c.cap.streams c.phase phase r p in
-    settled_told c x y [] (made_same c x d.0 t) refl (let n = d.1 in omega arith) (λ w. run_no_last c.phase r) (by_none c.phase phase l) s
-ended_told c j b x y r t (spends step k g q) s =
-    let d = returned_done c.cap k q in then_told c x y d.0 d.1 refl t s
-
-step_told : (coder : Coder) (c : Context) {e : SoloEvent} {told : SoloReply} {slot : Slot} → IsTidy c → Step coder c e told slot → ToldSlot c slot
-unfolding ToldSlot
-step_told coder c t (calls e) = effect_told c t e
-step_told coder c t rests = same_told c c refl refl t
-step_told coder c t (lacks_job n) = same_told c c refl refl t
-step_told coder c t (claims b rest k r n o j p d (probes e)) = same_told c _ refl refl t
-step_told coder c t (claims b rest k r n o j p d (runs x xs m u e)) = same_told c _ refl refl t
-step_told coder c t (finishes r x y job ends s w) = ended_told c _ job.source x y job.runs t ends s
-step_told coder c t (faults r x y job ends s) = ended_told c _ job.source x y job.runs t ends s
-
-told_at : (coder : Coder) (events : List SoloEvent) (e : SoloEvent) (c y : Context) → IsSound c → IsTidy c → (solo_step coder (Some c) e).slot ≡ Some y → Told c y
-unfolding ToldSlot
-told_at coder events e c y s t next = subst (ToldSlot c) next (step_told coder c t (step_of coder c e s))
-
-ends_with : (c y : Context) → Told c y → EndsWithLast (gives_by c.phase y.phase) (done_now c y)
-ends_with c y (no_last new d f g) =
-    subst (λ b. EndsWithLast b (done_now c y)) (sym g) (ap (λ l. filter is_flagged_last l) d ∙ f)
-ends_with c y (with_last front b d l f g n) =
-    subst (λ t. EndsWithLast t (done_now c y)) (sym g) (front, b, d, l, f)
-
-pub last_is_told : LastIsTold
-last_is_told coder events e before after at next =
-    ends_with before after (told_at coder events e before after (subst IsSoundSlot at (always_sound coder events)) (always_tidy coder events before at) next)
-
 -- Everything went back
 
-newest_of : (c y : Context) → gives_by c.phase y.phase ≡ true → Told c y → IsNewest y.cap.done y.cap.next_seq
-newest_of c y e (no_last new d f g) = absurd (false≢true (sym g ∙ e))
-newest_of c y e (with_last front b d l f g n) = n
+-- where the LAST buffer of a drain is given, it is the latest on done
+NewestAt : Context → Slot → Type 0
+NewestAt c None = Unit {0}
+NewestAt c (Some y) = gives_last c y ≡ true → IsNewest y.cap.done y.cap.next_seq
+
+closed_newest : (c : Context) → NewestAt c None
+unfolding NewestAt
+closed_newest c = tt
+
+same_newest : (c y : Context) → y.phase ≡ c.phase → NewestAt c (Some y)
+unfolding NewestAt
+same_newest c y p g =
+    clash (is_last_by_drain c.phase) (ap (λ q. is_last_by_drain q && not (is_last_by_drain c.phase)) (sym p) ∙ g)
+
+other_newest : (c y : Context) → is_last_by_drain y.phase ≡ false → NewestAt c (Some y)
+unfolding NewestAt
+other_newest c y p g =
+    absurd (false≢true (sym p ∙ and_left (is_last_by_drain y.phase) (not (is_last_by_drain c.phase)) g))
+
+settled_newest : (c x y : Context) → NewestAt c (Some x) → Settles x y → NewestAt c (Some y)
+unfolding NewestAt
+settled_newest c x y h still = h
+settled_newest c x y h (owes p r) = other_newest c (record x { phase = owe drain }) refl
+settled_newest c x y h (gives cause b rest events r p) =
+    λ g. (x.cap.done, record b { used = 0; bytes = known_bytes x.cap.side last_flag []; flags = last_flag; stamp = zero_stamp; seq = x.cap.next_seq }, refl, refl)
+
+effect_newest : (c : Context) {request : Call} {bytes : List ℕ} {reply : Reply} {slot : Slot} → Effect c request bytes reply slot → NewestAt c slot
+effect_newest c (stays n) = same_newest c c refl
+effect_newest c (closes n) = closed_newest c
+effect_newest c (has_events events n) = same_newest c (record c { events = events }) refl
+effect_newest c (has_rates rates) = same_newest c (record c { rates = rates }) refl
+effect_newest c (has_out_format codec geometry o q k) = same_newest c _ refl
+effect_newest c (has_cap_format q) = same_newest c _ refl
+effect_newest c (has_out_buffers size codec geometry o k) = same_newest c _ refl
+effect_newest c (has_cap_buffers size o) = same_newest c _ refl
+effect_newest c adds_out = same_newest c _ refl
+effect_newest c adds_cap = same_newest c _ refl
+effect_newest c (queues_out b e) = same_newest c _ refl
+effect_newest c (queues_cap b y e s) = settled_newest c _ y (same_newest c _ refl) s
+effect_newest c (takes_out b rest d) = same_newest c _ refl
+effect_newest c (takes_cap b rest d n l) = same_newest c _ refl
+effect_newest c (takes_last b cause mark d p m) = other_newest c _ refl
+effect_newest c streams_out = same_newest c _ refl
+effect_newest c (streams_cap y s) = settled_newest c _ y (same_newest c _ refl) s
+effect_newest c (stops_out codec n k) = other_newest c _ (off_no_drain c.phase)
+effect_newest c (stops_cap codec n o k) = other_newest c _ refl
+effect_newest c (rests_cap n o) = same_newest c _ refl
+effect_newest c (sets_mark y n i b m d s) = settled_newest c _ y (same_newest c _ refl) s
+effect_newest c (starts y n i b e s) =
+    settled_newest c (record c { phase = run }) y (other_newest c (record c { phase = run }) refl) s
+
+-- the destination itself is the LAST buffer
+ended_last : (c x : Context) (d : Buffer) (used : ℕ) (bytes : List ℕ) (flags : ℕ) (stamp : Stamp) → x.cap.done ≡ c.cap.done ++ (record d { used = used; bytes = bytes; flags = flags; stamp = stamp; seq = c.cap.next_seq }) ∷ [] → c.cap.next_seq + 1 ≡ x.cap.next_seq → NewestAt c (Some x)
+unfolding NewestAt
+ended_last c x d used bytes flags stamp e n g =
+    (c.cap.done, record d { used = used; bytes = bytes; flags = flags; stamp = stamp; seq = c.cap.next_seq }, e, n)
+
+ended_newest : (c : Context) (j : JobData) (b : Buffer) {result : Option RunResult} (x y : Context) → is_run c.phase ≡ true → Ends c j b result x → Settles x y → NewestAt c (Some y)
+ended_newest c j b x y r (alone up flags cursor codec used bytes dest_flags stamp p n) s = settled_newest c x y (same_newest c x refl) s
+ended_newest c j b x y r (kept up flags cursor codec used bytes dest_flags stamp d p n) s = settled_newest c x y (same_newest c x refl) s
+ended_newest c j b x y r (ended flags cursor codec used bytes dest_flags stamp d up p u n m) s =
+    subst (λ z. NewestAt c (Some z)) (sym (last_settled x y drain refl s)) (ended_last c x d used (known_bytes c.cap.side (dest_flags + last_flag) bytes) (dest_flags + last_flag) stamp refl refl)
+ended_newest c j b x y r (halts step f geometry k phase events g e q p) s =
+    settled_newest c x y (other_newest c x (halted_no_drain c.cap.streams c.phase phase r p)) s
+ended_newest c j b x y r (spends step k g q) s = settled_newest c x y (same_newest c x refl) s
+
+step_newest : (coder : Coder) (c : Context) {e : SoloEvent} {told : SoloReply} {slot : Slot} → Step coder c e told slot → NewestAt c slot
+step_newest coder c (calls e) = effect_newest c e
+step_newest coder c rests = same_newest c c refl
+step_newest coder c (lacks_job n) = same_newest c c refl
+step_newest coder c (claims b rest k r n o j p d q) = same_newest c _ refl
+step_newest coder c (finishes r x y job ends s w) = ended_newest c _ job.source x y job.runs ends s
+step_newest coder c (faults r x y job ends s) = ended_newest c _ job.source x y job.runs ends s
 
 drain_is_last : (p : PhaseState) → is_last_by_drain p ≡ true → is_run p ≡ false
 drain_is_last run e = absurd (false≢true e)
@@ -286,15 +210,16 @@ drain_is_last (last cause) e = refl
 drain_is_last (stopped cause) e = refl
 
 pub all_went_back : AllWentBack
+unfolding NewestAt
 all_went_back coder events e before after at next g =
-    let s : IsSound before = subst IsSoundSlot at (always_sound coder events) in
-    let sound : IsSound after = subst IsSoundSlot next (step_sound coder (Some before) e s) in
+    let s : IsOrdered before = subst IsOrderedSlot at (always_ordered coder events) in
+    let sound : IsOrdered after = subst IsOrderedSlot next (step_sound coder (Some before) e s) in
     let none = idle after sound.firm (drain_is_last after.phase (and_left (is_last_by_drain after.phase) _ g)) in
     record {
       no_job = none.0;
       no_source = none.1.0;
       no_destination = none.1.1;
-      newest = newest_of before after (ap (λ b. b || gives_change before after) g) (told_at coder events e before after s (always_tidy coder events before at) next);
+      newest = subst (NewestAt before) next (step_newest coder before (step_of coder before e s)) g;
     }
 
 -- Nothing after LAST
@@ -316,7 +241,7 @@ over_settled : (x y : Context) → is_over x.phase ≡ true → Settles x y → 
 over_settled x y o still = refl
 over_settled x y o (owes p r) = absurd (false≢true (sym (over_stops x.phase o) ∙ and_left (is_run x.phase) _ p))
 over_settled x y o (gives cause b rest events r p) =
-    absurd (⊎_elim (λ (e : x.phase ≡ owe cause). over_owes x.phase cause o e) (λ (e : (cause ≡ drain) × (is_put_off x ≡ true)). false≢true (sym (over_stops x.phase o) ∙ and_left (is_run x.phase) _ e.1)) p)
+    absurd (⊎_elim (λ (e : x.phase ≡ owe cause). over_owes x.phase cause o e) (λ (e : (cause ≡ drain) × (drain_not_noted x ≡ true)). false≢true (sym (over_stops x.phase o) ∙ and_left (is_run x.phase) _ e.1)) p)
 
 over_off : (p : PhaseState) → is_over p ≡ true → is_run (without_drain_stop p) ≡ true
 over_off run e = absurd (false≢true e)
@@ -368,7 +293,7 @@ undrained : (ready : List Buffer) (mark : Option ℕ) → mark ≡ None → is_d
 undrained ready None e = refl
 undrained ready (Some m) e = absurd (cc)
 
-put_off_drained : (x : Context) → is_put_off x ≡ true → is_drained x.out.ready x.mark ≡ true
+put_off_drained : (x : Context) → drain_not_noted x ≡ true → is_drained x.out.ready x.mark ≡ true
 put_off_drained x p = and_right (is_none x.running) _ (and_right x.cap.streams _ (and_right (is_run x.phase) _ p))
 
 started_nothing : (c y : Context) → c.mark ≡ None → Settles (record c { phase = run }) y → NothingSlot c (Some y)
@@ -377,9 +302,9 @@ started_nothing c y m still r = absurd (false≢true (sym r))
 started_nothing c y m (owes p e) r =
     absurd (false≢true (sym (undrained c.out.ready c.mark m) ∙ put_off_drained (record c { phase = run }) p))
 started_nothing c y m (gives cause b rest events e p) r =
-    absurd (⊎_elim (λ (q : run ≡ owe cause). false≢true (sym (ap is_run q))) (λ (q : (cause ≡ drain) × (is_put_off (record c { phase = run }) ≡ true)). false≢true (sym (undrained c.out.ready c.mark m) ∙ put_off_drained (record c { phase = run }) q.1)) p)
+    absurd (⊎_elim (λ (q : run ≡ owe cause). false≢true (sym (ap is_run q))) (λ (q : (cause ≡ drain) × (drain_not_noted (record c { phase = run }) ≡ true)). false≢true (sym (undrained c.out.ready c.mark m) ∙ put_off_drained (record c { phase = run }) q.1)) p)
 
-effect_nothing : (c : Context) {request : Call} {bytes : List ℕ} {reply : Reply} {slot : Slot} → is_over c.phase ≡ true → IsSound c → IsTidy c → Effect c request bytes reply slot → NothingSlot c slot
+effect_nothing : (c : Context) {request : Call} {bytes : List ℕ} {reply : Reply} {slot : Slot} → is_over c.phase ≡ true → IsOrdered c → IsTidy c → Effect c request bytes reply slot → NothingSlot c slot
 effect_nothing c o f t (stays n) = same_nothing c c refl refl t
 effect_nothing c o f t (closes n) = closed_nothing c
 effect_nothing c o f t (has_events events n) = same_nothing c _ refl refl t
@@ -403,7 +328,7 @@ effect_nothing c o f t (rests_cap n a) = off_nothing c _ (f.firm.stopping (over_
 effect_nothing c o f t (sets_mark y n i b m d s) = over_nothing c _ y refl refl o t s
 effect_nothing c o f t (starts y n i b e s) = started_nothing c y (t.unmarked (unmarked_start c.phase c.mark o e)) s
 
-step_nothing : (coder : Coder) (c : Context) {e : SoloEvent} {told : SoloReply} {slot : Slot} → is_over c.phase ≡ true → IsSound c → IsTidy c → Step coder c e told slot → NothingSlot c slot
+step_nothing : (coder : Coder) (c : Context) {e : SoloEvent} {told : SoloReply} {slot : Slot} → is_over c.phase ≡ true → IsOrdered c → IsTidy c → Step coder c e told slot → NothingSlot c slot
 step_nothing coder c o f t (calls e) = effect_nothing c o f t e
 step_nothing coder c o f t rests = same_nothing c c refl refl t
 step_nothing coder c o f t (lacks_job n) = same_nothing c c refl refl t
@@ -414,26 +339,8 @@ step_nothing coder c o f t (faults r x y job ends s) = no_longer (is_run c.phase
 pub nothing_after_last : NothingAfterLast
 unfolding NothingSlot
 nothing_after_last coder events e before after at next o =
-    let s : IsSound before = subst IsSoundSlot at (always_sound coder events) in
+    let s : IsOrdered before = subst IsOrderedSlot at (always_ordered coder events) in
     subst (NothingSlot before) next (step_nothing coder before o s (always_tidy coder events before at) (step_of coder before e s))
-
--- The ended queue
-
-stopped_no_run : (p : PhaseState) → is_stopped p ≡ true → is_run p ≡ false
-stopped_no_run run e = absurd (false≢true e)
-stopped_no_run (owe cause) e = refl
-stopped_no_run (last cause) e = refl
-stopped_no_run (stopped cause) e = refl
-
-pipe_of : (q : QueueState) (taken : Bool) → q.streams ≡ true → taken ≡ true → dqbuf_refusal q taken ≡ Some Pipe
-pipe_of q taken s e =
-    ap (λ b. refuse_if (not b) Inval (refuse_if taken Pipe (refuse_if (is_empty q.done) Again None))) s ∙ ap (λ b. refuse_if b Pipe (refuse_if (is_empty q.done) Again None)) e
-
-pub ended_refuses : EndedQueueRefuses
-unfolding answer context_answer
-ended_refuses coder events c at e block bytes found =
-    let s : IsSound c = subst IsSoundSlot at (always_sound coder events) in
-    ap (λ o. (unless_or_block c o block (taken_answer c Cap c.cap.done)).reply) (pipe_of c.cap (is_stopped c.phase) (s.firm.stopping (stopped_no_run c.phase e)) e)
 
 -- Changes of the resolution
 
@@ -490,7 +397,7 @@ change_settled c x y d n p o t still r = inl (made_now c x [] (made_same c x d t
 change_settled c x y d n p o t (owes q e) r =
     no_longer (is_run c.phase) (ap is_run (sym p) ∙ and_left (is_run x.phase) _ q) (change_stops c.phase o)
 change_settled c x y d n p o t (gives cause b rest events e q) r =
-    inr (one_last c x cause b rest d n t y refl (inl (⊎_elim (λ (w : x.phase ≡ owe cause). owed_change c.phase cause (sym p ∙ w) o) (λ (w : (cause ≡ drain) × (is_put_off x ≡ true)). no_longer (is_run c.phase) (ap is_run (sym p) ∙ and_left (is_run x.phase) _ w.1) (change_stops c.phase o)) q)))
+    inr (one_last c x cause b rest d n t y refl (inl (⊎_elim (λ (w : x.phase ≡ owe cause). owed_change c.phase cause (sym p ∙ w) o) (λ (w : (cause ≡ drain) × (drain_not_noted x ≡ true)). no_longer (is_run c.phase) (ap is_run (sym p) ∙ and_left (is_run x.phase) _ w.1) (change_stops c.phase o)) q)))
 
 start_stopped : (p : PhaseState) (mark : Option ℕ) → stops_by_change p ≡ true → start_is_early p mark ≡ false → is_stopped p ≡ true
 start_stopped run mark o e = absurd (false≢true o)
@@ -509,7 +416,7 @@ unfolding ChangeSlot
 change_started c y o t still r = absurd (false≢true (sym r))
 change_started c y o t (owes p e) r = inl (made_now c (record c { phase = owe drain }) [] (made_same c (record c { phase = owe drain }) refl t))
 change_started c y o t (gives cause b rest events e p) r =
-    inr (one_last c (record c { phase = run }) cause b rest refl refl t y refl (inr (⊎_elim (λ (q : run ≡ owe cause). absurd (false≢true (sym (ap is_run q)))) (λ (q : (cause ≡ drain) × (is_put_off (record c { phase = run }) ≡ true)). (o, stopped_new c.phase cause o q.0)) p)))
+    inr (one_last c (record c { phase = run }) cause b rest refl refl t y refl (inr (⊎_elim (λ (q : run ≡ owe cause). absurd (false≢true (sym (ap is_run q)))) (λ (q : (cause ≡ drain) × (drain_not_noted (record c { phase = run }) ≡ true)). (o, stopped_new c.phase cause o q.0)) p)))
 
 effect_change : (c : Context) {request : Call} {bytes : List ℕ} {reply : Reply} {slot : Slot} → stops_by_change c.phase ≡ true → IsTidy c → Effect c request bytes reply slot → ChangeSlot c slot
 effect_change c o t (stays n) = no_done c c refl t
@@ -546,7 +453,7 @@ step_change coder c o t (faults r x y job ends s) = no_longer (is_run c.phase) j
 pub stops_by_a_change : StopsByChange
 unfolding ChangeSlot
 stops_by_a_change coder events e before after at next o =
-    let s : IsSound before = subst IsSoundSlot at (always_sound coder events) in
+    let s : IsOrdered before = subst IsOrderedSlot at (always_ordered coder events) in
     subst (ChangeSlot before) next (step_change coder before o (always_tidy coder events before at) (step_of coder before e s))
 
 -- The run that finds a change
@@ -573,7 +480,7 @@ halt_settled c x y d n r p t still =
 halt_settled c x y d n r p t (owes q e) = absurd (false≢true (ap is_run (sym p) ∙ and_left (is_run x.phase) _ q))
 halt_settled c x y d n r p t (gives cause b rest events e q) =
     let z : Buffer = record b { used = 0; bytes = known_bytes x.cap.side last_flag []; flags = last_flag; stamp = zero_stamp; seq = x.cap.next_seq } in
-    let by : not (is_drain cause) ≡ true = ⊎_elim (λ (w : x.phase ≡ owe cause). ap stops_by_change (sym w ∙ p)) (λ (w : (cause ≡ drain) × (is_put_off x ≡ true)). absurd (false≢true (ap is_run (sym p) ∙ and_left (is_run x.phase) _ w.1))) q in
+    let by : not (is_drain cause) ≡ true = ⊎_elim (λ (w : x.phase ≡ owe cause). ap stops_by_change (sym w ∙ p)) (λ (w : (cause ≡ drain) × (drain_not_noted x ≡ true)). absurd (false≢true (ap is_run (sym p) ∙ and_left (is_run x.phase) _ w.1))) q in
     record { stops = by; done = inr (z, made_now c y (z ∷ []) (made_more c x y [] z refl (omega arith) (made_same c x d t)), refl, by_change c.phase r by) }
   where
     by_change : (p : PhaseState) → is_run p ≡ true → not (is_drain cause) ≡ true → (not (is_drain cause) && not (is_last_by_change p)) ≡ true
@@ -629,5 +536,5 @@ step_first coder c {e = e} {told = told} {slot = slot} t (faults r x y job ends 
 pub changes_stop : ChangesStop
 unfolding FirstSlot
 changes_stop coder events e before after at next =
-    let s : IsSound before = subst IsSoundSlot at (always_sound coder events) in
+    let s : IsOrdered before = subst IsOrderedSlot at (always_ordered coder events) in
     subst (FirstSlot before e (solo_step coder (Some before) e).told) next (step_first coder before (always_tidy coder events before at) (step_of coder before e s))

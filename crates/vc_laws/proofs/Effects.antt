@@ -24,7 +24,7 @@ use Rattle.vc_model.specs.Coder.{CodecState, reset}
 use Rattle.vc_model.specs.Context.{Context, Slot, Running, Cause, drain, change, PhaseState, run, owe, last, stopped, queue_of, with_queue, is_dec, is_enc, is_run, is_stopped, is_drained, has_before, sizeimage, settle, settle_owed, settle_last, give_last}
 use Rattle.vc_model.specs.Answer.{Answer, unchanged, refused, answered, unless, if_found, unless_or_block, desc_answer, set_answer, set_refusal, after_new_format, reqbufs_answer, after_new_buffers, create_answer, query_answer, qbuf_answer, is_part_of_picture, taken_answer, after_taking, stop_at_last, is_ended, streamon_answer, streamoff_answer, streamoff_effect, without_drain_stop, after_output_off, mark_after_restart, after_capture_off, both_stream, is_stopped_by_drain, stop_answer, start_is_early, start_answer, command_answer, value_answer, control_answer, context_answer}
 use Rattle.vc_model.specs.Drains.{takes_a_buffer}
-use Rattle.vc_model.specs.Sound.{is_put_off, is_held_back, is_last, IsPast, IsSettled, IsFirm, IsSound}
+use Rattle.vc_model.specs.Sound.{drain_not_noted, last_not_given, is_last, MarkIsQueued, IsSettled, IsSoundButUnsettled, IsOrdered}
 use Rattle.vc_model.proofs.Tests.{not_false}
 use Rattle.vc_model.proofs.Settled.{settles_once}
 use Rattle.vc_laws.specs.Segments.{call_resets}
@@ -39,10 +39,10 @@ given_queue q b rest = retire_after (lend_front q (b ∷ rest)) 0 [] last_flag z
 -- what settling makes of a context
 pub data Settles (x : Context) : Context → Type 0 where
   still : Settles x x
-  owes : is_put_off x ≡ true → x.cap.ready ≡ [] → Settles x (record x { phase = owe drain })
-  gives : (cause : Cause) (b : Buffer) (rest : List Buffer) (events : EventState) → x.cap.ready ≡ b ∷ rest → (x.phase ≡ owe cause) ⊎ ((cause ≡ drain) × (is_put_off x ≡ true)) → Settles x (record x { cap = given_queue x.cap b rest; phase = last cause; events = events })
+  owes : drain_not_noted x ≡ true → x.cap.ready ≡ [] → Settles x (record x { phase = owe drain })
+  gives : (cause : Cause) (b : Buffer) (rest : List Buffer) (events : EventState) → x.cap.ready ≡ b ∷ rest → (x.phase ≡ owe cause) ⊎ ((cause ≡ drain) × (drain_not_noted x ≡ true)) → Settles x (record x { cap = given_queue x.cap b rest; phase = last cause; events = events })
 
-give_drained : (x : Context) (ready : List Buffer) → x.cap.ready ≡ ready → is_put_off x ≡ true → Settles x (give_last (record x { phase = owe drain }) drain ready)
+give_drained : (x : Context) (ready : List Buffer) → x.cap.ready ≡ ready → drain_not_noted x ≡ true → Settles x (give_last (record x { phase = owe drain }) drain ready)
 give_drained x [] r p = owes p r
 give_drained x (b ∷ rest) r p =
     subst (λ l. Settles x (record x { cap = retire_after (lend_front x.cap l) 0 [] last_flag zero_stamp; phase = last drain; events = raise_after x.events eos_event 0 })) (sym r) (gives drain b rest (raise_after x.events eos_event 0) r (inr (refl, p)))
@@ -60,13 +60,13 @@ owed_split x (owe cause) p = give_owed x cause x.cap.ready refl p
 owed_split x (last cause) p = still
 owed_split x (stopped cause) p = still
 
-settle_split : (x : Context) (b : Bool) → is_put_off x ≡ b → Settles x (settle_owed (cond b (record x { phase = owe drain }) x))
+settle_split : (x : Context) (b : Bool) → drain_not_noted x ≡ b → Settles x (settle_owed (cond b (record x { phase = owe drain }) x))
 settle_split x true e = give_drained x x.cap.ready refl e
 settle_split x false e = owed_split x x.phase refl
 
 pub settle_is : (x : Context) → Settles x (settle x)
 unfolding settle
-settle_is x = settle_split x (is_put_off x) refl
+settle_is x = settle_split x (drain_not_noted x) refl
 
 -- Effects
 
@@ -260,14 +260,14 @@ no_longer true p q = absurd (false≢true (sym q))
 no_longer false p q = absurd (false≢true p)
 
 -- where OUTPUT does not stream there is no mark, so nothing is put off
-resting_out : (c x : Context) → IsSound c → c.out.streams ≡ false → x.phase ≡ c.phase → x.mark ≡ c.mark → x.cap ≡ c.cap → IsSettled x
+resting_out : (c x : Context) → IsOrdered c → c.out.streams ≡ false → x.phase ≡ c.phase → x.mark ≡ c.mark → x.cap ≡ c.cap → IsSettled x
 resting_out c x s o p m k =
     record {
       noted = no_stream (is_run x.phase) x.cap.streams (is_none x.running) (is_drained x.out.ready x.mark) (drained_mark x.out.ready x.mark (is_drained x.out.ready x.mark) refl (λ e. no_longer c.out.streams (s.firm.marked (ap is_some (sym m) ∙ e)) o));
-      given = ap (λ q. is_held_back q x.cap.ready) p ∙ (ap (λ q. is_held_back c.phase q.ready) k ∙ s.settled.given);
+      given = ap (λ q. last_not_given q x.cap.ready) p ∙ (ap (λ q. last_not_given c.phase q.ready) k ∙ s.settled.given);
     }
 
-new_out_of : (c : Context) (kind : Kind) (count size reply : ℕ) (bytes : List ℕ) → c.kind ≡ kind → c.out.streams ≡ false → IsSound c → Of c (ReqBufs Out count) bytes (answered (after_new_buffers kind Out (record c { out = reqbufs_after c.out count size })) (Count reply))
+new_out_of : (c : Context) (kind : Kind) (count size reply : ℕ) (bytes : List ℕ) → c.kind ≡ kind → c.out.streams ≡ false → IsOrdered c → Of c (ReqBufs Out count) bytes (answered (after_new_buffers kind Out (record c { out = reqbufs_after c.out count size })) (Count reply))
 new_out_of c Copy count size reply bytes k o s =
     let x = record c { out = reqbufs_after c.out count size } in
     settled_of c x (ReqBufs Out count) bytes (Count reply) (resting_out c x s o refl refl refl) (has_out_buffers size c.codec c.geometry o (subst (λ d. CodecAfterBuffers d c.codec c.codec c.geometry c.geometry) (sym k) (refl, refl)))
@@ -279,11 +279,11 @@ new_out_of c Dec count size reply bytes k o s =
     settled_of c x (ReqBufs Out count) bytes (Count reply) (resting_out c x s o refl refl refl) (has_out_buffers size (reset c.codec) None o (subst (λ d. CodecAfterBuffers d c.codec (reset c.codec) c.geometry None) (sym k) (refl, refl)))
 
 -- where CAPTURE does not stream the phase is Run, and nothing is put off
-run_again : (c : Context) (b : Bool) → is_run c.phase ≡ b → IsFirm c → c.cap.streams ≡ false → b ≡ true
+run_again : (c : Context) (b : Bool) → is_run c.phase ≡ b → IsSoundButUnsettled c → c.cap.streams ≡ false → b ≡ true
 run_again c true e f o = refl
 run_again c false e f o = no_longer c.cap.streams (f.stopping e) o
 
-not_held_back : (p : PhaseState) (ready : List Buffer) → is_run p ≡ true → is_held_back p ready ≡ false
+not_held_back : (p : PhaseState) (ready : List Buffer) → is_run p ≡ true → last_not_given p ready ≡ false
 not_held_back run ready e = refl
 not_held_back (owe cause) ready e = absurd (false≢true e)
 not_held_back (last cause) ready e = refl
@@ -298,7 +298,7 @@ pub resting_cap : (x : Context) → is_run x.phase ≡ true → x.cap.streams �
 resting_cap x p o =
     record { noted = not_streaming (is_run x.phase) x.cap.streams _ o; given = not_held_back x.phase x.cap.ready p }
 
-new_cap_of : (c : Context) (kind : Kind) (count size reply : ℕ) (bytes : List ℕ) → c.cap.streams ≡ false → IsSound c → Of c (ReqBufs Cap count) bytes (answered (after_new_buffers kind Cap (record c { cap = reqbufs_after c.cap count size })) (Count reply))
+new_cap_of : (c : Context) (kind : Kind) (count size reply : ℕ) (bytes : List ℕ) → c.cap.streams ≡ false → IsOrdered c → Of c (ReqBufs Cap count) bytes (answered (after_new_buffers kind Cap (record c { cap = reqbufs_after c.cap count size })) (Count reply))
 new_cap_of c Copy count size reply bytes o s =
     let x = record c { cap = reqbufs_after c.cap count size } in
     settled_of c x (ReqBufs Cap count) bytes (Count reply) (resting_cap x (run_again c (is_run c.phase) refl s.firm o) o) (has_cap_buffers size o)
@@ -309,7 +309,7 @@ new_cap_of c Dec count size reply bytes o s =
     let x = record c { cap = reqbufs_after c.cap count size } in
     settled_of c x (ReqBufs Cap count) bytes (Count reply) (resting_cap x (run_again c (is_run c.phase) refl s.firm o) o) (has_cap_buffers size o)
 
-reqbufs_of : (c : Context) (side : Side) (count : ℕ) (bytes : List ℕ) (found : Bool) → IsSound c → Of c (ReqBufs side count) bytes (reqbufs_answer c side count found)
+reqbufs_of : (c : Context) (side : Side) (count : ℕ) (bytes : List ℕ) (found : Bool) → IsOrdered c → Of c (ReqBufs side count) bytes (reqbufs_answer c side count found)
 reqbufs_of c Out count bytes found s =
     unless_of c (ReqBufs Out count) bytes (refuse_if c.out.streams Busy None) _ (λ (p : refuse_if c.out.streams Busy None ≡ None). found_of c (ReqBufs Out count) bytes found _ (new_out_of c c.kind count (sizeimage c Out) (min count most_buffers) bytes refl (refused_split c.out.streams Busy None p).0 s))
 reqbufs_of c Cap count bytes found s =
@@ -347,24 +347,24 @@ or_false true b e = refl
 or_false false b e = e
 
 -- one ready buffer more that is queued after the mark
-pub drained_more : (ready : List Buffer) (x : Buffer) (mark : Option ℕ) (next : ℕ) → x.ordinal ≡ next → IsPast mark next → is_drained (ready ++ x ∷ []) mark ≡ is_drained ready mark
+pub drained_more : (ready : List Buffer) (x : Buffer) (mark : Option ℕ) (next : ℕ) → x.ordinal ≡ next → MarkIsQueued mark next → is_drained (ready ++ x ∷ []) mark ≡ is_drained ready mark
 drained_more ready x None next o p = refl
 drained_more ready x (Some m) next o p =
     ap not (list_any-append (λ b. nat_lt b.ordinal m) ready (x ∷ []) ∙ or_false (has_before ready m) (nat_lt x.ordinal m || false) (ap (λ b. b || false) (ap (λ n. nat_lt n m) o ∙ le-ltb next m p)))
 
-queue_out_of : (c : Context) (index used : ℕ) (stamp : Stamp) (bytes : List ℕ) (b : Buffer) → with_index index c.out.held ≡ Some b → IsSound c → Of c (QBuf Out index used stamp) bytes (answered (record c { out = queue_held c.out index (Some b) used stamp bytes }) Done)
+queue_out_of : (c : Context) (index used : ℕ) (stamp : Stamp) (bytes : List ℕ) (b : Buffer) → with_index index c.out.held ≡ Some b → IsOrdered c → Of c (QBuf Out index used stamp) bytes (answered (record c { out = queue_held c.out index (Some b) used stamp bytes }) Done)
 queue_out_of c index used stamp bytes b e s =
     let x = queued_buffer c.out.side b used stamp bytes c.out.next_ordinal in
-    settled_of c (record c { out = queue_held c.out index (Some b) used stamp bytes }) (QBuf Out index used stamp) bytes Done (record { noted = ap (λ d. is_run c.phase && (c.cap.streams && (is_none c.running && d))) (drained_more c.out.ready x c.mark c.out.next_ordinal (queued_ordinal c.out.side b used stamp bytes c.out.next_ordinal) s.firm.past) ∙ s.settled.noted; given = s.settled.given }) (queues_out b e)
+    settled_of c (record c { out = queue_held c.out index (Some b) used stamp bytes }) (QBuf Out index used stamp) bytes Done (record { noted = ap (λ d. is_run c.phase && (c.cap.streams && (is_none c.running && d))) (drained_more c.out.ready x c.mark c.out.next_ordinal (queued_ordinal c.out.side b used stamp bytes c.out.next_ordinal) s.firm.queued) ∙ s.settled.noted; given = s.settled.given }) (queues_out b e)
 
-queue_side_of : (c : Context) (side : Side) (index used : ℕ) (stamp : Stamp) (bytes : List ℕ) (b : Buffer) → with_index index (queue_of c side).held ≡ Some b → IsSound c → Of c (QBuf side index used stamp) bytes (answered (with_queue c side (queue_held (queue_of c side) index (with_index index (queue_of c side).held) used stamp bytes)) Done)
+queue_side_of : (c : Context) (side : Side) (index used : ℕ) (stamp : Stamp) (bytes : List ℕ) (b : Buffer) → with_index index (queue_of c side).held ≡ Some b → IsOrdered c → Of c (QBuf side index used stamp) bytes (answered (with_queue c side (queue_held (queue_of c side) index (with_index index (queue_of c side).held) used stamp bytes)) Done)
 unfolding Of
 queue_side_of c Out index used stamp bytes b e s =
     subst (λ o. Of c (QBuf Out index used stamp) bytes (answered (record c { out = queue_held c.out index o used stamp bytes }) Done)) (sym e) (queue_out_of c index used stamp bytes b e s)
 queue_side_of c Cap index used stamp bytes b e s =
     subst (λ o. Of c (QBuf Cap index used stamp) bytes (answered (record c { cap = queue_held c.cap index o used stamp bytes }) Done)) (sym e) (queues_cap b _ e (settle_is (record c { cap = queue_held c.cap index (Some b) used stamp bytes })))
 
-qbuf_of : (c : Context) (side : Side) (index used : ℕ) (stamp : Stamp) (bytes : List ℕ) → IsSound c → Of c (QBuf side index used stamp) bytes (qbuf_answer c side index used stamp bytes)
+qbuf_of : (c : Context) (side : Side) (index used : ℕ) (stamp : Stamp) (bytes : List ℕ) → IsOrdered c → Of c (QBuf side index used stamp) bytes (qbuf_answer c side index used stamp bytes)
 qbuf_of c side index used stamp bytes s =
     let q = queue_of c side in
     let a = answered (with_queue c side (qbuf_after q index used stamp bytes)) Done in
@@ -429,7 +429,7 @@ on_of c Cap bytes s =
     let x = record c { cap = streamon_after c.cap } in
     unless_of c (StreamOn Cap) bytes (streamon_refusal c.cap (sizeimage c Cap)) (answered x Done) (λ p. streams_cap _ (settle_is x))
 
-off_held_back : (p : PhaseState) (ready : List Buffer) → is_held_back p ready ≡ false → is_held_back (without_drain_stop p) ready ≡ false
+off_held_back : (p : PhaseState) (ready : List Buffer) → last_not_given p ready ≡ false → last_not_given (without_drain_stop p) ready ≡ false
 off_held_back run ready e = refl
 off_held_back (owe drain) ready e = refl
 off_held_back (owe change) ready e = e
@@ -458,12 +458,12 @@ off_cap_of c Enc bytes k n t =
 off_cap_of c Dec bytes k n t =
     settled_of c _ (StreamOff Cap) bytes Done (resting_cap (record c { cap = streamoff_after c.cap; mark = mark_after_restart c.phase c.mark; phase = run }) refl refl) (stops_cap c.codec n t (subst (λ d. CodecAfterCapture d c.codec c.codec) (sym k) refl))
 
-off_cap_split : (c : Context) (b : Bool) (bytes : List ℕ) → c.cap.streams ≡ b → c.running ≡ None → IsSound c → Of c (StreamOff Cap) bytes (answered (cond b (after_capture_off c.kind (record c { cap = streamoff_after c.cap; mark = mark_after_restart c.phase c.mark; phase = run })) (record c { cap = streamoff_after c.cap })) Done)
+off_cap_split : (c : Context) (b : Bool) (bytes : List ℕ) → c.cap.streams ≡ b → c.running ≡ None → IsOrdered c → Of c (StreamOff Cap) bytes (answered (cond b (after_capture_off c.kind (record c { cap = streamoff_after c.cap; mark = mark_after_restart c.phase c.mark; phase = run })) (record c { cap = streamoff_after c.cap })) Done)
 off_cap_split c true bytes e n s = off_cap_of c c.kind bytes refl n e
 off_cap_split c false bytes e n s =
     settled_of c _ (StreamOff Cap) bytes Done (resting_cap (record c { cap = streamoff_after c.cap }) (run_again c (is_run c.phase) refl s.firm e) refl) (rests_cap n e)
 
-off_of : (c : Context) (side : Side) (bytes : List ℕ) → IsSound c → Of c (StreamOff side) bytes (streamoff_answer c side)
+off_of : (c : Context) (side : Side) (bytes : List ℕ) → IsOrdered c → Of c (StreamOff side) bytes (streamoff_answer c side)
 off_of c Out bytes s =
     running_of c (StreamOff Out) bytes (is_none c.running) (answered (streamoff_effect c Out) Done) (λ (n : is_none c.running ≡ true). off_out_of c c.kind bytes refl (none_is c.running n) s.settled)
 off_of c Cap bytes s =
@@ -525,7 +525,7 @@ closing : (c : Context) (bytes : List ℕ) → c.running ≡ None → Of c Close
 unfolding Of
 closing c bytes n = closes n
 
-all_effects : (c : Context) (request : Call) (bytes : List ℕ) (found : Bool) → IsSound c → Of c request bytes (context_answer c request bytes found)
+all_effects : (c : Context) (request : Call) (bytes : List ℕ) (found : Bool) → IsOrdered c → Of c request bytes (context_answer c request bytes found)
 unfolding context_answer
 all_effects c (Open kind) bytes found s = plain c (Open kind) bytes (Refused Busy) (record { no_reset = refl; no_take = refl })
 all_effects c Close bytes found s =
@@ -555,6 +555,6 @@ all_effects c (SetCtrl id value) bytes found s = control_of c id value bytes _ s
 all_effects c Poll bytes found s = plain c Poll bytes _ (record { no_reset = refl; no_take = refl })
 
 -- the effect of each call on an open context
-pub effect_of : (c : Context) (request : Call) (bytes : List ℕ) (found : Bool) → IsSound c → Effect c request bytes (context_answer c request bytes found).reply (context_answer c request bytes found).slot
+pub effect_of : (c : Context) (request : Call) (bytes : List ℕ) (found : Bool) → IsOrdered c → Effect c request bytes (context_answer c request bytes found).reply (context_answer c request bytes found).slot
 unfolding Of
 effect_of c request bytes found s = all_effects c request bytes found s

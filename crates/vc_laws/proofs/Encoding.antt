@@ -18,7 +18,7 @@ use Rattle.vc_model.specs.Context.{Context, Slot, Running, fresh_context, is_dec
 use Rattle.vc_model.specs.Answer.{answer, closed_answer}
 use Rattle.vc_model.specs.Runs.{sort_of, source_of, JobData, job_data, RunResult, encoded, run_result, run_of, encode_run}
 use Rattle.vc_model.specs.Solo.{SoloEvent, Called, Claims, Finishes, SoloReply, Answered, Finished, solo_step, solo_slot}
-use Rattle.vc_model.specs.Sound.{IsSoundSlot}
+use Rattle.vc_model.specs.Sound.{IsOrderedSlot}
 use Rattle.vc_laws.specs.Segments.{EncodedPicture, Segment, fresh_segment, call_resets, call_adds, after_run, segment_of_step, segment_of_slots, segment_step, segment_of}
 use Rattle.vc_laws.specs.Following.{geometry_of, coded_picture, EncoderFollows}
 use Rattle.vc_laws.proofs.Effects.{CodecAfterFormat, CodecAfterBuffers, CodecAfterOutput, CodecAfterCapture, Settles, still, owes, gives, Effect, stays, closes, has_events, has_rates, has_out_format, has_cap_format, has_out_buffers, has_cap_buffers, adds_out, adds_cap, queues_out, queues_cap, takes_out, takes_cap, takes_last, streams_out, streams_cap, stops_out, stops_cap, rests_cap, sets_mark, starts}
@@ -259,7 +259,7 @@ unfolding EncoderAt KindSlot
 of_encoders c None seg k f = tt
 of_encoders c (Some y) seg k f = λ q. f (sym k ∙ q) q
 
-slot_encoder : (seg : Segment) (s : Slot) (e : SoloEvent) → IsSoundSlot s → TidySlot s → EncoderAt s seg → EncoderAt (solo_step the_coder s e).slot (segment_of_slots the_coder seg s (solo_step the_coder s e).slot e (solo_step the_coder s e).told)
+slot_encoder : (seg : Segment) (s : Slot) (e : SoloEvent) → IsOrderedSlot s → TidySlot s → EncoderAt s seg → EncoderAt (solo_step the_coder s e).slot (segment_of_slots the_coder seg s (solo_step the_coder s e).slot e (solo_step the_coder s e).told)
 unfolding solo_step answer EncoderAt
 slot_encoder seg None (Called request bytes found) h t w = open_encoder seg request bytes found
 slot_encoder seg None Claims h t w = tt
@@ -273,7 +273,7 @@ slot_encoder seg (Some c) (Finishes fault) h t w =
     let q = step_of the_coder c (Finishes fault) h in
     of_encoders c _ _ (step_kind the_coder c q) (λ k. step_encoder seg c t k (w k) q)
 
-segment_encoder : (seg : Segment) (s : Slot) (e : SoloEvent) → IsSoundSlot s → TidySlot s → EncoderAt s seg → EncoderAt (solo_step the_coder s e).slot (segment_step the_coder seg s e)
+segment_encoder : (seg : Segment) (s : Slot) (e : SoloEvent) → IsOrderedSlot s → TidySlot s → EncoderAt s seg → EncoderAt (solo_step the_coder s e).slot (segment_step the_coder seg s e)
 unfolding segment_step
 segment_encoder seg s e h t w = slot_encoder seg s e h t w
 

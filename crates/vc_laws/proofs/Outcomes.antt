@@ -1,4 +1,4 @@
--- What a decoder's runs gave against the sequential decoder; all but the first two laws rest on the law of resuming.
+-- What a decoder's runs gave against the sequential decoder. It rests on the law of resuming of the coded format.
 use Rattle.std.proofs.Common.{ℕ, ◌≡◌, Bool, true, false, not, ◌||◌, Option, Some, None, List, [], ◌∷◌, ◌++◌, length, take, drop, map, refl, sym, ap, ◌∙◌, subst}
 use Rattle.std.specs.List.{filter}
 use Rattle.std.proofs.lemmas.Bool.{false≢true}
@@ -8,17 +8,18 @@ use Rattle.vc_base.specs.declared.Kind.TheVariants.{Dec}
 use Rattle.vc_base.specs.Buffers.{Buffer}
 use Rattle.vc_defs.specs.declared.Geometry.{Geometry}
 use Rattle.vc_defs.specs.Decoder.{FrameResult, ResultKind, Picture, Damaged, Changed, GivenResult, results}
-use Rattle.vc_defs.specs.Laws.{Resuming, from_start, AreOrdered, IsNext, IsNoChange}
+use Rattle.vc_defs.proofs.Resuming.{resuming}
+use Rattle.vc_defs.specs.Laws.{from_start, AreOrdered, IsNext, IsNoChange}
 use Rattle.vc_defs.proofs.ResultOrder.{results_are_ordered}
 use Rattle.vc_model.specs.Coder.{CodecState, the_coder}
 use Rattle.vc_model.specs.Context.{Context, Running, PhaseState, run, owe, last, stopped, is_run, is_drained, has_before}
 use Rattle.vc_model.specs.Runs.{front_is_due}
 use Rattle.vc_model.specs.Solo.{solo_step, solo_slot}
-use Rattle.vc_model.specs.Sound.{IsSound, IsSoundSlot, is_at_end}
+use Rattle.vc_model.specs.Sound.{IsOrdered, IsOrderedSlot, is_at_end}
 use Rattle.vc_model.specs.Drains.{is_last_by_drain}
 use Rattle.vc_model.proofs.Tests.{and_left}
 use Rattle.vc_model.proofs.Firm.{idle}
-use Rattle.vc_model.proofs.Ending.{always_sound, step_sound}
+use Rattle.vc_model.proofs.Ending.{always_ordered, step_sound}
 use Rattle.vc_laws.specs.Segments.{Segment, segment_of, whats, is_change_kind}
 use Rattle.vc_laws.specs.Following.{is_picture, is_no_change, FollowsDecoder, Follows, SegmentsBegin, RetiredAreResults}
 use Rattle.vc_laws.specs.Drains.{DrainsGiveAll, IsAnswered, ChangesAreAnswered, FrameAfterChange, SameDrainsSameResults}
@@ -55,8 +56,8 @@ follows_from seg r codec geometry h =
       stamps = λ k d l. (h.stamped k d l).1;
     }
 
-pub follows : Resuming → Follows
-follows resuming events c r at k e =
+pub follows : Follows
+follows events c r at k e =
     follows_from (segment_of the_coder events) r c.codec c.geometry ((decoding events c at k).stands resuming r e)
 
 -- Drains
@@ -87,10 +88,10 @@ kind_after : (c y : Context) → KindSlot c (Some y) → c.kind ≡ Dec → y.ki
 unfolding KindSlot
 kind_after c y p q = p ∙ q
 
-pub drains_give_all : Resuming → DrainsGiveAll
-drains_give_all resuming events e before after r at next k g f =
-    let s : IsSound before = subst IsSoundSlot at (always_sound the_coder events) in
-    let sound : IsSound after = subst IsSoundSlot next (step_sound the_coder (Some before) e s) in
+pub drains_give_all : DrainsGiveAll
+drains_give_all events e before after r at next k g f =
+    let s : IsOrdered before = subst IsOrderedSlot at (always_ordered the_coder events) in
+    let sound : IsOrdered after = subst IsOrderedSlot next (step_sound the_coder (Some before) e s) in
     let there : solo_slot the_coder None (events ++ e ∷ []) ≡ Some after = slot_more the_coder None events e ∙ (ap (λ z. (solo_step the_coder z e).slot) at ∙ next) in
     let kind = kind_after before after (subst (KindSlot before) next (step_kind the_coder before (step_of the_coder before e s))) k in
     let seg = segment_of the_coder (events ++ e ∷ []) in
@@ -99,12 +100,12 @@ drains_give_all resuming events e before after r at next k g f =
     let none = idle after sound.firm (drain_stops after.phase l) in
     let drained = sound.firm.drained (end_drained after.phase l) in
     let given : seg.given ≡ true = is_given seg.given (λ (z : seg.given ≡ false). none_due after.out.ready after.mark (ap (λ j. front_is_due (j ++ after.out.ready) after.mark) (sym none.1.0) ∙ h.pending z) drained) in
-    (follows resuming (events ++ e ∷ []) after r there kind f).all given
+    (follows (events ++ e ∷ []) after r there kind f).all given
 
-pub same_drains : Resuming → SameDrainsSameResults
-same_drains resuming one other e f r q a b l g s =
-    let x = drains_give_all resuming one e a.before a.after r a.stands a.steps a.decoder a.gives a.first in
-    let y = drains_give_all resuming other f b.before b.after q b.stands b.steps b.decoder b.gives b.first in
+pub same_drains : SameDrainsSameResults
+same_drains one other e f r q a b l g s =
+    let x = drains_give_all one e a.before a.after r a.stands a.steps a.decoder a.gives a.first in
+    let y = drains_give_all other f b.before b.after q b.stands b.steps b.decoder b.gives b.first in
     x ∙ (ap (λ z. results z r.limit r.geometry None) s ∙ (ap (λ z. results (segment_of the_coder (other ++ f ∷ [])).bytes z r.geometry None) l ∙ (ap (λ z. results (segment_of the_coder (other ++ f ∷ [])).bytes q.limit z None) g ∙ sym y)))
 
 -- Changes
@@ -127,8 +128,8 @@ answered_in : (xs ys : List FrameResult) → AreOrdered (xs ++ ys) → ChangesAr
 answered_in [] ys o = tt
 answered_in (r ∷ xs) ys o = (answered_first r xs ys o, answered_in xs ys o.2)
 
-pub frame_after_change : Resuming → FrameAfterChange
-frame_after_change resuming events c r at k e =
+pub frame_after_change : FrameAfterChange
+frame_after_change events c r at k e =
     let seg = segment_of the_coder events in
-    let front = (follows resuming events c r at k e).front in
+    let front = (follows events c r at k e).front in
     answered_in (whats seg) front.0 (subst AreOrdered front.1 (results_are_ordered r.limit r.geometry None seg.bytes))

@@ -13,7 +13,7 @@ use Rattle.vc_model.specs.Context.{Context, Slot, Running}
 use Rattle.vc_model.specs.Runs.{job_data, run_result}
 use Rattle.vc_model.specs.Places.{is_honest, AreHonest}
 use Rattle.vc_model.specs.Solo.{SoloEvent, Called, Finishes, Answered, Finished, Nothing, solo_step, solo_run, solo_slot}
-use Rattle.vc_model.specs.Sound.{IsSoundSlot}
+use Rattle.vc_model.specs.Sound.{IsOrderedSlot}
 use Rattle.vc_model.specs.Drains.{done_now}
 use Rattle.vc_model.proofs.Ending.{step_sound}
 use Rattle.vc_laws.specs.Segments.{Segment, fresh_segment, call_resets, call_adds, after_run, after_job, segment_of_step, segment_of_slots, segment_step, segment_after}
@@ -63,13 +63,13 @@ nothing_segment coder seg c false e =
 
 -- Runs
 
-pub always_holds : (coder : Coder) (P : Segment → Slot → Type 0) → ((seg : Segment) (s : Slot) (e : SoloEvent) → IsSoundSlot s → TidySlot s → P seg s → P (segment_step coder seg s e) (solo_step coder s e).slot) → (seg : Segment) (s : Slot) (es : List SoloEvent) → IsSoundSlot s → TidySlot s → P seg s → P (segment_after coder seg s es) (solo_slot coder s es)
+pub always_holds : (coder : Coder) (P : Segment → Slot → Type 0) → ((seg : Segment) (s : Slot) (e : SoloEvent) → IsOrderedSlot s → TidySlot s → P seg s → P (segment_step coder seg s e) (solo_step coder s e).slot) → (seg : Segment) (s : Slot) (es : List SoloEvent) → IsOrderedSlot s → TidySlot s → P seg s → P (segment_after coder seg s es) (solo_slot coder s es)
 always_holds coder P step seg s [] h t p = p
 always_holds coder P step seg s (e ∷ es) h t p =
     always_holds coder P step (segment_step coder seg s e) (solo_step coder s e).slot es (step_sound coder s e h) (slot_tidy coder s e h t) (step seg s e h t p)
 
 -- the same of runs whose bytes are as many as their calls say
-pub holds_if_honest : (coder : Coder) (P : Segment → Slot → Type 0) → ((seg : Segment) (s : Slot) (e : SoloEvent) → is_honest e (solo_step coder s e).told ≡ true → IsSoundSlot s → TidySlot s → P seg s → P (segment_step coder seg s e) (solo_step coder s e).slot) → (seg : Segment) (s : Slot) (es : List SoloEvent) → AreHonest (solo_run coder s es) → IsSoundSlot s → TidySlot s → P seg s → P (segment_after coder seg s es) (solo_slot coder s es)
+pub holds_if_honest : (coder : Coder) (P : Segment → Slot → Type 0) → ((seg : Segment) (s : Slot) (e : SoloEvent) → is_honest e (solo_step coder s e).told ≡ true → IsOrderedSlot s → TidySlot s → P seg s → P (segment_step coder seg s e) (solo_step coder s e).slot) → (seg : Segment) (s : Slot) (es : List SoloEvent) → AreHonest (solo_run coder s es) → IsOrderedSlot s → TidySlot s → P seg s → P (segment_after coder seg s es) (solo_slot coder s es)
 holds_if_honest coder P step seg s [] a h t p = p
 holds_if_honest coder P step seg s (e ∷ es) a h t p =
     holds_if_honest coder P step (segment_step coder seg s e) (solo_step coder s e).slot es a.1 (step_sound coder s e h) (slot_tidy coder s e h t) (step seg s e a.0 h t p)

@@ -16,8 +16,8 @@ use Rattle.vc_model.specs.Formats.{formats_found}
 use Rattle.vc_model.specs.Coder.{Coder, CodecState, encoder, decoder, reset}
 use Rattle.vc_model.specs.Context.{Context, Slot, Running, RunSort, copy, encode, decode, probe, drain, change, PhaseState, owe, last, is_dec, is_run, is_drained, has_before}
 use Rattle.vc_model.specs.Runs.{front_is_due, is_unknown, ready_for_probe, ready_for_run, is_claimable, sort_of, cap_after_claim, running_of, claim_front, after_claim, JobData, job_data, RunResult, copied, encoded, decoded, run_result, source_moved, dest_done, type_flag, decoded_effect, run_effect, fault_effect, after_finish, finish_word}
-use Rattle.vc_model.specs.Solo.{SoloEvent, Called, Claims, Finishes, SoloReply, Answered, Claimed, Finished, Nothing, solo_step, claim_step, finish_job}
-use Rattle.vc_model.specs.Sound.{CountsUp, HasItsBuffers, dest_count, IsSound}
+use Rattle.vc_model.specs.Solo.{SoloEvent, Called, Claims, Finishes, SoloReply, Answered, Claimed, Finished, Nothing, solo_step, claim_step, solo_finish}
+use Rattle.vc_model.specs.Sound.{CountsUp, HasItsBuffers, dest_count, IsOrdered}
 use Rattle.vc_model.proofs.Tests.{and_left, and_right, not_true, not_false, or_cases}
 use Rattle.vc_model.specs.Answer.{answer}
 use Rattle.vc_model.proofs.Firm.{without_job}
@@ -246,7 +246,7 @@ none_is : (o : Option Running) → is_none o ≡ true → o ≡ None
 none_is None e = refl
 none_is (Some r) e = absurd (false≢true e)
 
-claimed : (coder : Coder) (c : Context) → is_claimable (Some c) ≡ true → IsSound c → Step coder c Claims Claimed (Some (after_claim c))
+claimed : (coder : Coder) (c : Context) → is_claimable (Some c) ≡ true → IsOrdered c → Step coder c Claims Claimed (Some (after_claim c))
 unfolding is_claimable after_claim
 claimed coder c p s =
     let n = and_left (is_none c.running) (ready_for_probe c || ready_for_run c) p in
@@ -254,7 +254,7 @@ claimed coder c p s =
     let u = subst (λ l. CountsUp (l ++ c.out.ready) s.firm.out.latest.first c.out.next_ordinal) jobs.0 s.firm.out.latest.counts in
     ⊎_elim (λ (q : ready_for_probe c ≡ true). let t = parts_of_probe c q in claims_front coder c c.out.ready (sort_of c.kind c.geometry) refl refl (none_is c.running n) jobs.0 jobs.1 t.2 t.3 (probing_cap c (sort_of c.kind c.geometry) (probe_sort c.kind c.geometry t.0))) (λ (q : ready_for_run c ≡ true). let t = parts_of_run c q in claims_front coder c c.out.ready (sort_of c.kind c.geometry) refl refl (none_is c.running n) jobs.0 jobs.1 t.4 (due_now c.out.ready c.mark s.firm.out.latest.first c.out.next_ordinal t.2 u (not_put_off (is_run c.phase) c.cap.streams (is_none c.running) (is_drained c.out.ready c.mark) t.4 t.1 n s.settled.noted)) (taking_cap c (sort_of c.kind c.geometry) (run_sort c.kind c.geometry t.5) t.1 t.3)) (or_cases (ready_for_probe c) (ready_for_run c) (and_right (is_none c.running) (ready_for_probe c || ready_for_run c) p))
 
-claim_is : (coder : Coder) (c : Context) (b : Bool) → is_claimable (Some c) ≡ b → IsSound c → Step coder c Claims (claim_step (Some c) b).told (claim_step (Some c) b).slot
+claim_is : (coder : Coder) (c : Context) (b : Bool) → is_claimable (Some c) ≡ b → IsOrdered c → Step coder c Claims (claim_step (Some c) b).told (claim_step (Some c) b).slot
 claim_is coder c true e s = claimed coder c e s
 claim_is coder c false e s = rests
 
@@ -286,12 +286,12 @@ finish_is coder c r true e h =
     let d = j.dest in
     faults r _ _ j (faulted_ends c r j.source c.cap.job j.job refl (omega arith)) (settle_is _)
 
-finish_job_is : (coder : Coder) (c : Context) (o : Option Running) (fault : Bool) → c.running ≡ o → HasItsBuffers c o → Step coder c (Finishes fault) (finish_job coder c o fault).told (finish_job coder c o fault).slot
+finish_job_is : (coder : Coder) (c : Context) (o : Option Running) (fault : Bool) → c.running ≡ o → HasItsBuffers c o → Step coder c (Finishes fault) (solo_finish coder c o fault).told (solo_finish coder c o fault).slot
 finish_job_is coder c None fault e h = lacks_job e
 finish_job_is coder c (Some r) fault e h = finish_is coder c r fault e h
 
 -- every step of an open slot that is sound
-pub step_of : (coder : Coder) (c : Context) (e : SoloEvent) → IsSound c → Step coder c e (solo_step coder (Some c) e).told (solo_step coder (Some c) e).slot
+pub step_of : (coder : Coder) (c : Context) (e : SoloEvent) → IsOrdered c → Step coder c e (solo_step coder (Some c) e).told (solo_step coder (Some c) e).slot
 unfolding solo_step answer
 step_of coder c (Called request bytes found) s = calls (effect_of c request bytes found s)
 step_of coder c Claims s = claim_is coder c (is_claimable (Some c)) refl s

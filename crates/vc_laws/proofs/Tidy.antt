@@ -17,7 +17,7 @@ use Rattle.vc_model.specs.Context.{Context, Slot, Running, Cause, drain, change,
 use Rattle.vc_model.specs.Answer.{is_stopped_by_drain, without_drain_stop, answer, closed_answer}
 use Rattle.vc_model.specs.Runs.{front_is_due, sort_of, run_format, running_of, JobData, RunResult}
 use Rattle.vc_model.specs.Solo.{SoloEvent, Called, Claims, Finishes, SoloReply, solo_step, solo_slot}
-use Rattle.vc_model.specs.Sound.{CountsUp, HasItsBuffers, IsFirm, IsSound, IsSoundSlot}
+use Rattle.vc_model.specs.Sound.{CountsUp, HasItsBuffers, IsSoundButUnsettled, IsOrdered, IsOrderedSlot}
 use Rattle.vc_model.proofs.Tests.{and_left, and_right}
 use Rattle.vc_model.proofs.Ending.{step_sound}
 use Rattle.vc_laws.proofs.Effects.{Settles, still, owes, gives, MarkAfterLast, Effect, stays, closes, has_events, has_rates, has_out_format, has_cap_format, has_out_buffers, has_cap_buffers, adds_out, adds_cap, queues_out, queues_cap, takes_out, takes_cap, takes_last, streams_out, streams_cap, stops_out, stops_cap, rests_cap, sets_mark, starts}
@@ -130,7 +130,7 @@ job_before (b ∷ bs) ready first next u n e = lt-ltb b.ordinal next (before_nex
     before_next : (xs : List Buffer) (a z m : ℕ) → m ≡ a → CountsUp xs (a + 1) z → m < z
     before_next xs a z m e u = let h = up xs (a + 1) z u in omega arith
 
-marked_run : (c x : Context) (o : Option Running) → x.kind ≡ c.kind → x.geometry ≡ c.geometry → x.formats.out ≡ c.formats.out → x.out.job ≡ c.out.job → x.mark ≡ Some c.out.next_ordinal → HasItsBuffers c o → IsFirm c → HasRun c o → HasRun x o
+marked_run : (c x : Context) (o : Option Running) → x.kind ≡ c.kind → x.geometry ≡ c.geometry → x.formats.out ≡ c.formats.out → x.out.job ≡ c.out.job → x.mark ≡ Some c.out.next_ordinal → HasItsBuffers c o → IsSoundButUnsettled c → HasRun c o → HasRun x o
 marked_run c x None k g f j m b s h = tt
 marked_run c x (Some r) k g f j m b s h =
     record {
@@ -165,7 +165,7 @@ stopped_mark : (cause : Cause) (old new : Option ℕ) → MarkAfterLast cause ol
 stopped_mark drain old new m e = m
 stopped_mark change old new m e = absurd (false≢true e)
 
-effect_tidy : (c : Context) {request : Call} {bytes : List ℕ} {reply : Reply} {slot : Slot} → IsSound c → IsTidy c → Effect c request bytes reply slot → TidySlot slot
+effect_tidy : (c : Context) {request : Call} {bytes : List ℕ} {reply : Reply} {slot : Slot} → IsOrdered c → IsTidy c → Effect c request bytes reply slot → TidySlot slot
 effect_tidy c s t (stays n) = t
 effect_tidy c s t (closes n) = tt
 effect_tidy c s t (has_events events n) =
@@ -253,7 +253,7 @@ ended_tidy c j b x p (halts step r geometry k phase events g w q f) t =
 ended_tidy c j b x p (spends step k g q) t =
     record { below = returned_below c.cap k q t.below; unmarked = t.unmarked; run = tt }
 
-pub step_tidy : (coder : Coder) (c : Context) {e : SoloEvent} {told : SoloReply} {slot : Slot} → IsSound c → IsTidy c → Step coder c e told slot → TidySlot slot
+pub step_tidy : (coder : Coder) (c : Context) {e : SoloEvent} {told : SoloReply} {slot : Slot} → IsOrdered c → IsTidy c → Step coder c e told slot → TidySlot slot
 step_tidy coder c s t (calls e) = effect_tidy c s t e
 step_tidy coder c s t rests = t
 step_tidy coder c s t (lacks_job n) = t
@@ -324,7 +324,7 @@ closed_tidy (Open kind) true = fresh_tidy kind
 closed_tidy (Open kind) false = tt
 closed_tidy request found = tt
 
-pub slot_tidy : (coder : Coder) (s : Slot) (e : SoloEvent) → IsSoundSlot s → TidySlot s → TidySlot (solo_step coder s e).slot
+pub slot_tidy : (coder : Coder) (s : Slot) (e : SoloEvent) → IsOrderedSlot s → TidySlot s → TidySlot (solo_step coder s e).slot
 unfolding solo_step answer
 slot_tidy coder None (Called request bytes found) h t = closed_tidy request found
 slot_tidy coder None Claims h t = tt
@@ -333,7 +333,7 @@ slot_tidy coder (Some c) (Called request bytes found) h t = step_tidy coder c h 
 slot_tidy coder (Some c) Claims h t = step_tidy coder c h t (step_of coder c Claims h)
 slot_tidy coder (Some c) (Finishes fault) h t = step_tidy coder c h t (step_of coder c (Finishes fault) h)
 
-run_tidy : (coder : Coder) (s : Slot) (es : List SoloEvent) → IsSoundSlot s → TidySlot s → TidySlot (solo_slot coder s es)
+run_tidy : (coder : Coder) (s : Slot) (es : List SoloEvent) → IsOrderedSlot s → TidySlot s → TidySlot (solo_slot coder s es)
 run_tidy coder s [] h t = t
 run_tidy coder s (e ∷ es) h t =
     run_tidy coder (solo_step coder s e).slot es (step_sound coder s e h) (slot_tidy coder s e h t)

@@ -23,11 +23,11 @@ use Rattle.vc_model.specs.Answer.{answer, closed_answer, mark_after_restart}
 use Rattle.vc_model.specs.Runs.{front_is_due, running_of, sort_of, source_of, JobData, job_data, RunResult, decoded, run_result, run_of, decode_run}
 use Rattle.vc_model.specs.Solo.{SoloEvent, Called, Claims, Finishes, SoloReply, Answered, Claimed, Finished, solo_step, solo_run, solo_slot}
 use Rattle.vc_model.specs.Places.{is_honest_call, is_honest, AreHonest}
-use Rattle.vc_model.specs.Sound.{CountsUp, HasCodec, IsPast, IsFirm, IsSound, IsSoundSlot, is_at_end}
+use Rattle.vc_model.specs.Sound.{CountsUp, HasCodec, MarkIsQueued, IsSoundButUnsettled, IsOrdered, IsOrderedSlot, is_at_end}
 use Rattle.vc_model.specs.Drains.{is_last_by_drain, gives_last, done_now}
 use Rattle.vc_model.proofs.Tests.{and_left, and_right, and_both, not_true, or_cases}
 use Rattle.vc_model.proofs.Firm.{idle}
-use Rattle.vc_model.proofs.Ending.{always_sound, step_sound}
+use Rattle.vc_model.proofs.Ending.{always_ordered, step_sound}
 use Rattle.vc_laws.specs.Segments.{Segment, fresh_segment, consumed, after_run, segment_of_step, segment_of_slots, segment_step, segment_of, call_resets}
 use Rattle.vc_laws.specs.Drains.{is_stop_call, before_mark, IsWholeDrain, DrainsAreWhole}
 use Rattle.vc_laws.proofs.Effects.{is_command, Settles, still, owes, gives, MarkAfterLast, Effect, stays, closes, has_events, has_rates, has_out_format, has_cap_format, has_out_buffers, has_cap_buffers, adds_out, adds_cap, queues_out, queues_cap, takes_out, takes_cap, takes_last, streams_out, streams_cap, stops_out, stops_cap, rests_cap, sets_mark, starts, queued_ordinal}
@@ -376,14 +376,14 @@ off_unread : (held ready done : List Buffer) → list_all is_unread held ≡ tru
 off_unread held ready done h =
     all_both is_unread (held ++ map held_again ready) (map held_again done) (all_both is_unread held (map held_again ready) h (again_unread ready)) (again_unread done)
 
-no_run_job : (c : Context) → IsSound c → c.running ≡ None → c.out.job ≡ []
+no_run_job : (c : Context) → IsOrdered c → c.running ≡ None → c.out.job ≡ []
 no_run_job c s n = split c.running s.firm.has_buffers n
   where
     split : (o : Option Running) → Rattle.vc_model.specs.Sound.HasItsBuffers c o → o ≡ None → c.out.job ≡ []
     split None h e = h.0
     split (Some r) h e = absurd (cc)
 
-effect_whole : (coder : Coder) (seg : Segment) (c : Context) {request : Call} {bytes : List ℕ} {reply : Reply} {slot : Slot} (found : Bool) (handed : List ℕ) → is_honest (Called request bytes found) (Answered reply handed) ≡ true → IsSound c → c.kind ≡ Dec → IsWhole seg c → Effect c request bytes reply slot → WholeAt slot (segment_of_slots coder seg (Some c) slot (Called request bytes found) (Answered reply handed))
+effect_whole : (coder : Coder) (seg : Segment) (c : Context) {request : Call} {bytes : List ℕ} {reply : Reply} {slot : Slot} (found : Bool) (handed : List ℕ) → is_honest (Called request bytes found) (Answered reply handed) ≡ true → IsOrdered c → c.kind ≡ Dec → IsWhole seg c → Effect c request bytes reply slot → WholeAt slot (segment_of_slots coder seg (Some c) slot (Called request bytes found) (Answered reply handed))
 effect_whole coder seg c {request = request} {bytes = bytes} {reply = reply} found handed n s k w (stays p) =
     called_whole coder seg c c request bytes found reply handed p.no_reset refl w
 effect_whole coder seg c found handed n s k w (closes p) = closed_whole _
@@ -505,7 +505,7 @@ settled_after seg b step x y still w = w
 settled_after seg b step x y (owes p r) w = w
 settled_after seg b step x y (gives cause z rest events r p) w = w
 
-finish_whole : (coder : Coder) (seg : Segment) (c : Context) (r : Running) (job : HasJob c r) (x y : Context) (word : List ℕ) → IsSound c → IsTidy c → c.kind ≡ Dec → IsWhole seg c → Ends c (job_data c r) job.source (Some (run_result coder (job_data c r))) x → Settles x y → IsWhole (segment_of_step coder seg c y (Finishes false) (Finished word)) y
+finish_whole : (coder : Coder) (seg : Segment) (c : Context) (r : Running) (job : HasJob c r) (x y : Context) (word : List ℕ) → IsOrdered c → IsTidy c → c.kind ≡ Dec → IsWhole seg c → Ends c (job_data c r) job.source (Some (run_result coder (job_data c r))) x → Settles x y → IsWhole (segment_of_step coder seg c y (Finishes false) (Finished word)) y
 finish_whole coder seg c r job x y word s t k w ends u =
     let b = job.source in
     let run : IsRunOf c r = subst (HasRun c) job.running t.run in
@@ -543,7 +543,7 @@ settled_out c x y still h = h
 settled_out c x y (owes p r) h = h
 settled_out c x y (gives cause z rest events r p) h = h
 
-fault_whole : (coder : Coder) (seg : Segment) (c : Context) (r : Running) (job : HasJob c r) (x y : Context) (word : List ℕ) → IsSound c → IsWhole seg c → Ends c (job_data c r) job.source None x → Settles x y → IsWhole (segment_of_step coder seg c y (Finishes true) (Finished word)) y
+fault_whole : (coder : Coder) (seg : Segment) (c : Context) (r : Running) (job : HasJob c r) (x y : Context) (word : List ℕ) → IsOrdered c → IsWhole seg c → Ends c (job_data c r) job.source None x → Settles x y → IsWhole (segment_of_step coder seg c y (Finishes true) (Finished word)) y
 fault_whole coder seg c r job x y word s w ends u =
     let b = job.source in
     let h = settled_out c x y u (faulted_out c (job_data c r) b x refl ends) in
@@ -569,7 +569,7 @@ claims_whole coder seg c b rest z e j w =
     let y = record c { out = lend_front c.out (b ∷ rest); cap = z; running = Some (running_of c (sort_of c.kind c.geometry)) } in
     is_whole y _ (quiet_whole seg c y (claimed_whole seg c b rest e j w))
 
-step_whole : (coder : Coder) (seg : Segment) (c : Context) {e : SoloEvent} {told : SoloReply} {slot : Slot} → is_honest e told ≡ true → IsSound c → IsTidy c → c.kind ≡ Dec → IsWhole seg c → Step coder c e told slot → WholeAt slot (segment_of_slots coder seg (Some c) slot e told)
+step_whole : (coder : Coder) (seg : Segment) (c : Context) {e : SoloEvent} {told : SoloReply} {slot : Slot} → is_honest e told ≡ true → IsOrdered c → IsTidy c → c.kind ≡ Dec → IsWhole seg c → Step coder c e told slot → WholeAt slot (segment_of_slots coder seg (Some c) slot e told)
 step_whole coder seg c n s t k w (calls {found = found} {handed = handed} f) = effect_whole coder seg c found handed n s k w f
 step_whole coder seg c n s t k w rests = is_whole c _ (quiet_whole seg c c w)
 step_whole coder seg c n s t k w (lacks_job {fault = fault} o) =
@@ -596,7 +596,7 @@ unfolding WholeAt KindSlot
 of_decoders c None seg k f = tt
 of_decoders c (Some y) seg k f = λ q. f (sym k ∙ q) q
 
-slot_whole : (coder : Coder) (seg : Segment) (s : Slot) (e : SoloEvent) → is_honest e (solo_step coder s e).told ≡ true → IsSoundSlot s → TidySlot s → WholeAt s seg → WholeAt (solo_step coder s e).slot (segment_of_slots coder seg s (solo_step coder s e).slot e (solo_step coder s e).told)
+slot_whole : (coder : Coder) (seg : Segment) (s : Slot) (e : SoloEvent) → is_honest e (solo_step coder s e).told ≡ true → IsOrderedSlot s → TidySlot s → WholeAt s seg → WholeAt (solo_step coder s e).slot (segment_of_slots coder seg s (solo_step coder s e).slot e (solo_step coder s e).told)
 unfolding solo_step answer WholeAt
 slot_whole coder seg None (Called request bytes found) n h t w = open_whole coder seg request bytes found
 slot_whole coder seg None Claims n h t w = tt
@@ -610,7 +610,7 @@ slot_whole coder seg (Some c) (Finishes fault) n h t w =
     let q = step_of coder c (Finishes fault) h in
     of_decoders c _ _ (step_kind coder c q) (λ k. step_whole coder seg c n h t k (w k) q)
 
-segment_whole : (coder : Coder) (seg : Segment) (s : Slot) (e : SoloEvent) → is_honest e (solo_step coder s e).told ≡ true → IsSoundSlot s → TidySlot s → WholeAt s seg → WholeAt (solo_step coder s e).slot (segment_step coder seg s e)
+segment_whole : (coder : Coder) (seg : Segment) (s : Slot) (e : SoloEvent) → is_honest e (solo_step coder s e).told ≡ true → IsOrderedSlot s → TidySlot s → WholeAt s seg → WholeAt (solo_step coder s e).slot (segment_step coder seg s e)
 unfolding segment_step
 segment_whole coder seg s e n h t w = slot_whole coder seg s e n h t w
 
@@ -708,12 +708,12 @@ after_kind c y p q = p ∙ q
 pub drains_are_whole : DrainsAreWhole
 unfolding WholeAt HonestAt
 drains_are_whole coder events e before after mark n at next k g m =
-    let s : IsSound before = subst IsSoundSlot at (always_sound coder events) in
+    let s : IsOrdered before = subst IsOrderedSlot at (always_ordered coder events) in
     let t = always_tidy coder events before at in
     let step = step_of coder before e s in
     let honest = subst (HonestAt before e (solo_step coder (Some before) e).told) next (step_honest coder before step) g in
     let whole = subst (λ z. WholeAt z (segment_of coder events)) at (always_whole coder events n) in
-    let sound : IsSound after = subst IsSoundSlot next (step_sound coder (Some before) e s) in
+    let sound : IsOrdered after = subst IsOrderedSlot next (step_sound coder (Some before) e s) in
     let kind : after.kind ≡ Dec = after_kind before after (subst (KindSlot before) next (step_kind coder before step)) k in
     let w = subst (λ z. WholeAt z (segment_step coder (segment_of coder events) (Some before) e)) next (segment_whole coder (segment_of coder events) (Some before) e honest s t whole) kind in
     let l = and_left (is_last_by_drain after.phase) _ g in

@@ -1,23 +1,21 @@
--- Drains: from the STOP that sets the mark to the LAST buffer that is dequeued; and changes of the resolution.
-use Rattle.std.specs.Prelude.{ℕ, ◌≡◌, ◌⊎◌, ◌+◌, ◌==◌, Bool, true, false, not, ◌&&◌, ◌||◌, nat_lt, bit_and, codes, is_none, is_some, Option, Some, None, List, [], ◌∷◌, ◌++◌}
+-- Drains: from the STOP that sets the mark to the LAST buffer that is dequeued; and changes of the resolution ("Drain" and
+-- "Dynamic Resolution Change" of the stateful decoder, "Drain" of the stateful encoder).
+use Rattle.std.specs.Prelude.{ℕ, ◌≡◌, ◌⊎◌, ◌+◌, ◌==◌, Bool, true, false, not, ◌&&◌, nat_lt, codes, is_none, is_some, Option, Some, None, List, [], ◌∷◌, ◌++◌}
 use Rattle.std.specs.List.{filter, flat_map}
-use Rattle.vc_base.specs.declared.Side.TheVariants.{Cap}
 use Rattle.vc_base.specs.declared.Kind.TheVariants.{Dec}
-use Rattle.vc_base.specs.declared.Errno.TheVariants.{Pipe}
 use Rattle.vc_base.specs.declared.Call.{Call}
-use Rattle.vc_base.specs.declared.Call.TheVariants.{DqBuf, DecCmd, EncCmd}
+use Rattle.vc_base.specs.declared.Call.TheVariants.{Close, StreamOff, DecCmd, EncCmd}
 use Rattle.vc_base.specs.declared.Reply.{Reply}
-use Rattle.vc_base.specs.declared.Reply.TheVariants.{Done, Refused}
+use Rattle.vc_base.specs.declared.Reply.TheVariants.{Done}
 use Rattle.vc_base.specs.Buffers.{Buffer, last_flag}
 use Rattle.vc_defs.specs.Decoder.{FrameResult}
 use Rattle.vc_model.specs.Coder.{Coder, the_coder}
 use Rattle.vc_model.specs.Context.{Context, Slot, Running, PhaseState, run, owe, last, stopped, is_run, is_stopped, is_drain}
-use Rattle.vc_model.specs.Answer.{answer}
 use Rattle.vc_model.specs.Places.{AreHonest}
 use Rattle.vc_model.specs.Sound.{CountsUp, stops_by_change}
-use Rattle.vc_model.specs.Soundness.{AtEveryMoment}
 use Rattle.vc_model.specs.Solo.{SoloEvent, Called, Finishes, SoloReply, Answered, Finished, solo_step, solo_run, solo_slot}
 use Rattle.vc_model.specs.Drains.{AtEveryStep, is_last_by_drain, gives_last, takes_capture, done_now}
+use Rattle.vc_model.specs.LastBuffers.{gives_change}
 use Rattle.vc_laws.specs.Segments.{Segment, segment_of, whats}
 use Rattle.vc_laws.specs.Following.{results_of, is_no_change, in_buffers, by_runs, OneForOne}
 
@@ -64,31 +62,22 @@ abbrev pub MarksStay : Type 0
 MarksStay =
     AtEveryStep (λ before e told after. (mark : ℕ) → before.mark ≡ Some mark → (after.mark ≡ Some mark) ⊎ (after.mark ≡ None))
 
+-- the calls that abort a drain: StreamOff of either side, and Close
+abbrev pub is_off_call : Call → Bool
+is_off_call (StreamOff side) = true
+is_off_call Close = true
+is_off_call request = false
+
+abbrev pub is_off : SoloEvent → SoloReply → Bool
+is_off (Called request bytes found) (Answered reply handed) = is_off_call request && is_done reply
+is_off e told = false
+
+-- A drain is aborted by a StreamOff or a Close alone.
+abbrev pub AbortedByOff : Type 0
+AbortedByOff =
+    (coder : Coder) (events : List SoloEvent) (e : SoloEvent) (before : Context) → solo_slot coder None events ≡ Some before → let r = solo_step coder (Some before) e in aborts_drain (Some before) e r.told r.slot ≡ true → is_off e r.told ≡ true
+
 -- The LAST buffer
-
--- a step in which a CAPTURE buffer goes to done with LAST for a change of the resolution
-abbrev pub is_last_by_change : PhaseState → Bool
-is_last_by_change run = false
-is_last_by_change (owe cause) = false
-is_last_by_change (last cause) = not (is_drain cause)
-is_last_by_change (stopped cause) = false
-
-abbrev pub gives_change : Context → Context → Bool
-gives_change before after = is_last_by_change after.phase && not (is_last_by_change before.phase)
-
-abbrev pub is_flagged_last : Buffer → Bool
-is_flagged_last b = bit_and b.flags last_flag == last_flag
-
--- the buffers that are flagged LAST are these: the final one where there is to be one, else none
-abbrev pub EndsWithLast : Bool → List Buffer → Type 0
-EndsWithLast true bs = (front : List Buffer) × (b : Buffer) × (bs ≡ front ++ b ∷ []) × (is_flagged_last b ≡ true) × (filter is_flagged_last front ≡ [])
-EndsWithLast false bs = filter is_flagged_last bs ≡ []
-
--- LAST is told by the flag of exactly one buffer, the final one that goes to done in the step: where a step gives the LAST
--- buffer of a drain or of a change, and nowhere else.
-abbrev pub LastIsTold : Type 0
-LastIsTold =
-    AtEveryStep (λ before e told after. EndsWithLast (gives_last before after || gives_change before after) (done_now before after))
 
 -- a LAST buffer of a drain was given, and maybe taken
 abbrev pub is_over : PhaseState → Bool
@@ -116,11 +105,6 @@ pub record NoneIsOut (c : Context) : Type 0 where
 
 abbrev pub AllWentBack : Type 0
 AllWentBack = AtEveryStep (λ before e told after. gives_last before after ≡ true → NoneIsOut after)
-
--- After the LAST buffer was taken, DqBuf on CAPTURE answers EPIPE, however it is asked.
-abbrev pub EndedQueueRefuses : Type 0
-EndedQueueRefuses =
-    AtEveryMoment (λ c. is_stopped c.phase ≡ true → (block : Bool) (bytes : List ℕ) (found : Bool) → (answer (Some c) (DqBuf Cap block) bytes found).reply ≡ Refused Pipe)
 
 -- Whole drains
 

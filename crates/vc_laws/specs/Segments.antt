@@ -1,4 +1,4 @@
--- Segments: what the runs of a slot did between two resets of its codec state.
+-- Segments: what the runs of a slot did between two resets of its codec state ("Seek" of the stateful decoder).
 use Rattle.std.specs.Prelude.{ℕ, ◌-◌, Bool, true, false, ◌||◌, if◌then◌else◌, length, take, drop, replicate, map, Option, Some, None, List, [], ◌∷◌, ◌++◌}
 use Rattle.vc_base.specs.declared.Side.{Side}
 use Rattle.vc_base.specs.declared.Side.TheVariants.{Out, Cap}

@@ -1,8 +1,9 @@
-//! Laws over the runs of one slot, proved from the definitions alone.
+//! Laws over the runs of one slot, proved from the definitions alone. Their subjects are "Drain", "Seek" and "Dynamic
+//! Resolution Change" of the memory-to-memory stateful video decoder interface, and "Drain" of the stateful video encoder
+//! interface, in the Linux userspace API documentation.
 
-ghost use Rattle.vc_laws.specs.Drains.{DrainsBeginAtStop, MarksStay, LastIsTold, NothingAfterLast, AllWentBack, EndedQueueRefuses, StopsByChange, ChangesStop, DrainsAreWhole, DrainsGiveAll, FrameAfterChange, SameDrainsSameResults};
-ghost use Rattle.vc_laws.specs.Following.{EncoderFollows, Follows, SegmentsBegin, RetiredAreResults};
-ghost use Rattle.vc_defs.specs.Laws.{Resuming};
+ghost use Rattle.vc_laws.specs.Drains.{AbortedByOff, AllWentBack, ChangesStop, DrainsAreWhole, DrainsBeginAtStop, DrainsGiveAll, FrameAfterChange, MarksStay, NothingAfterLast, ResultsBeforeChange, SameDrainsSameResults, StopsByChange};
+ghost use Rattle.vc_laws.specs.Following.{EncoderFollows, Follows, RetiredAreResults, SegmentsBegin};
 
 /// A drain begins at a STOP alone, and its mark is the number of OUTPUT buffers queued before it.
 pub fn drains_begin_at_stop()
@@ -14,9 +15,9 @@ pub fn marks_stay()
     ensures { MarksStay }
 {}
 
-/// LAST is told by the flag of exactly one buffer, the final one that goes to done in the step that gives it.
-pub fn last_is_told()
-    ensures { LastIsTold }
+/// A drain is aborted by a StreamOff or a Close alone.
+pub fn aborted_by_off()
+    ensures { AbortedByOff }
 {}
 
 /// After the LAST buffer of a drain no CAPTURE buffer goes to done before the phase is Run again.
@@ -27,11 +28,6 @@ pub fn nothing_after_last()
 /// Where the LAST buffer of a drain is given no job is left, and it is the latest that went to done.
 pub fn all_went_back()
     ensures { AllWentBack }
-{}
-
-/// After the LAST buffer was taken DqBuf on CAPTURE answers EPIPE.
-pub fn ended_queue_refuses()
-    ensures { EndedQueueRefuses }
 {}
 
 /// While a decoder stops by a change no CAPTURE buffer goes to done but one empty LAST buffer.
@@ -64,26 +60,27 @@ pub fn segments_begin()
     ensures { SegmentsBegin }
 {}
 
-/// The results of a decoder's segment are the sequential decoder's for the bytes that its runs consumed. This is
-/// conditional: it rests on the law of resuming of the coded format, which it takes as a premise.
-pub fn follows_if_resuming()
-    ensures { Resuming → Follows }
+/// Where the LAST buffer of a change is given, the results before it are all in buffers that went to done before it.
+pub fn results_before_change()
+    ensures { ResultsBeforeChange }
 {}
 
-/// Where a decoder gives the LAST buffer of a drain, all results of the segment's bytes were given. This is conditional:
-/// it rests on the law of resuming of the coded format, which it takes as a premise.
-pub fn drains_give_all_if_resuming()
-    ensures { Resuming → DrainsGiveAll }
+/// The results of a decoder's segment are the sequential decoder's for the bytes that its runs consumed.
+pub fn follows()
+    ensures { Follows }
 {}
 
-/// The next result of a segment after a change is that of the frame that raised it. This is conditional: it rests on the
-/// law of resuming of the coded format, which it takes as a premise.
-pub fn frame_after_change_if_resuming()
-    ensures { Resuming → FrameAfterChange }
+/// Where a decoder gives the LAST buffer of a drain, all results of the segment's bytes were given.
+pub fn drains_give_all()
+    ensures { DrainsGiveAll }
 {}
 
-/// Neither schedule nor cutting matters to a finished drain. This is conditional: it rests on the law of resuming of the
-/// coded format, which it takes as a premise.
-pub fn same_drains_if_resuming()
-    ensures { Resuming → SameDrainsSameResults }
+/// The next result of a segment after a change is that of the frame that raised it.
+pub fn frame_after_change()
+    ensures { FrameAfterChange }
+{}
+
+/// Neither schedule nor cutting matters to a finished drain.
+pub fn same_drains()
+    ensures { SameDrainsSameResults }
 {}
