@@ -2,3 +2,4 @@ pub mod EntrySteps
 pub mod Ranges
 pub mod Shown
 pub mod Parsed
+pub mod Raw

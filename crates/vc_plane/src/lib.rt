@@ -6,7 +6,7 @@ mod blocks;
 mod entries;
 mod reading;
 
-pub use reading::read_coded;
+pub use reading::read_plane;
 
 /// The size of a plane and how its frame is coded.
 #[derive(Clone, Copy, PartialEq, Eq, Debug)]

@@ -1,7 +1,8 @@
 //! Reading a plane.
 
-ghost use Rattle.std.specs.Prelude.{◌≡◌, ◌≤◌, ◌<◌, ◌+◌, ◌*◌, ℕ, length, drop, IfOk, OnErr, Some, None, false};
-ghost use Rattle.vc_defs.specs.Planes.{block_count};
+ghost use Rattle.std.specs.Prelude.{◌≡◌, ◌≤◌, ◌<◌, ◌+◌, ◌*◌, ℕ, length, drop, slice_index, nat_lt, IfOk, OnErr, None, true, false};
+ghost use Rattle.std.specs.List.{list_all};
+ghost use Rattle.vc_defs.specs.Planes.{block_count, padded, unpadded};
 ghost use Rattle.vc_defs.specs.Bodies.{plane_from};
 ghost use Rattle.vc_plane.specs.Reading.{IsPlaneRead};
 
@@ -19,7 +20,7 @@ pub(crate) fn block_count(shape: &Shape) -> usize
 }
 
 /// Reads the entries of a coded plane.
-pub fn read_coded<T: Transform>(t: &T, body: &[u8], at: usize, shape: &Shape, reference: &mut [u8]) -> Result<usize, Damaged>
+fn read_coded<T: Transform>(t: &T, body: &[u8], at: usize, shape: &Shape, reference: &mut [u8]) -> Result<usize, Damaged>
     requires place { at ≤ length body.now }
     requires size { length reference.old ≡ shape.now.width * shape.now.height }
     requires some { (0 < shape.now.width) × (0 < shape.now.height) }
@@ -42,4 +43,77 @@ pub fn read_coded<T: Transform>(t: &T, body: &[u8], at: usize, shape: &Shape, re
         end = entry.end;
     }
     Ok(end)
+}
+
+/// Whether raw storage may have all of the bytes.
+fn are_samples(bytes: &[u8]) -> bool
+    ensures { result ≡ list_all (λ b. nat_lt b 255) bytes.now }
+{
+    bytes.iter().all(|byte| *byte < 255)
+}
+
+/// Copies some bytes from one place to another.
+fn copy_row(bytes: &[u8], from: usize, plane: &mut [u8], to: usize, count: usize)
+    requires from { from + count ≤ length bytes.now }
+    requires to { to + count ≤ length plane.old }
+    ensures copied { (k : ℕ) → k < count → slice_index plane.new (to + k) ≡ slice_index bytes.now (from + k) }
+    ensures kept { (j : ℕ) → j < to → slice_index plane.new j ≡ slice_index plane.old j }
+{
+    plane[to..to + count].copy_from_slice(&bytes[from..from + count]);
+}
+
+/// Copies the samples of a padded plane without its padding.
+fn unpad(bytes: &[u8], shape: &Shape, plane: &mut [u8])
+    requires bytes { length bytes.now ≡ padded shape.now.width * padded shape.now.height }
+    requires size { length plane.old ≡ shape.now.width * shape.now.height }
+    requires some { (0 < shape.now.width) × (0 < shape.now.height) }
+    ensures { plane.new ≡ unpadded bytes.now shape.now.width shape.now.height }
+{
+    let width = shape.width as usize;
+    let padded = 8 * width.div_ceil(8);
+    for row in 0..shape.height as usize {
+        copy_row(bytes, row * padded, plane, row * width, width);
+    }
+}
+
+/// Reads the samples of a raw plane.
+fn read_raw(body: &[u8], at: usize, shape: &Shape, reference: &mut [u8]) -> Result<usize, Damaged>
+    requires place { at ≤ length body.now }
+    requires size { length reference.old ≡ shape.now.width * shape.now.height }
+    requires some { (0 < shape.now.width) × (0 < shape.now.height) }
+    ensures ok { IfOk result (λ end. IsPlaneRead body.now at true shape.now reference.old reference.new end) }
+    ensures damaged { OnErr result (plane_from true shape.now.inter reference.old shape.now.width shape.now.height (drop at body.now) ≡ None) }
+{
+    let count = block_count(shape);
+    if (body.len() - at) / 64 < count {
+        return Err(Damaged);
+    }
+    let end = at + 64 * count;
+    if !are_samples(&body[at..end]) {
+        return Err(Damaged);
+    }
+    unpad(&body[at..end], shape, reference);
+    Ok(end)
+}
+
+/// Reads the plane at the front of the bytes from `at` on, raw or coded, and gives its end.
+///
+/// The reference has the samples of the plane before, width times height of them, neither of which is 0; it becomes
+/// the samples of this plane. P blocks are shown over the blocks of the reference of their own numbers.
+///
+/// The answer is [`Damaged`] exactly where no legal plane stands at the front of these bytes: a head has a bit that
+/// means nothing, or is of a P block in an I frame, or stands for more blocks than are left; words spell no block; a
+/// byte of a raw plane is 255; or the bytes end. Then nothing is said of the samples of the reference.
+pub fn read_plane<T: Transform>(t: &T, body: &[u8], at: usize, shape: &Shape, raw: bool, reference: &mut [u8]) -> Result<usize, Damaged>
+    requires place { at ≤ length body.now }
+    requires size { length reference.old ≡ shape.now.width * shape.now.height }
+    requires some { (0 < shape.now.width) × (0 < shape.now.height) }
+    ensures ok { IfOk result (λ end. IsPlaneRead body.now at raw shape.now reference.old reference.new end) }
+    ensures damaged { OnErr result (plane_from raw shape.now.inter reference.old shape.now.width shape.now.height (drop at body.now) ≡ None) }
+{
+    if raw {
+        read_raw(body, at, shape, reference)
+    } else {
+        read_coded(t, body, at, shape, reference)
+    }
 }
