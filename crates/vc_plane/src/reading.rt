@@ -1,14 +1,14 @@
 //! Reading a plane.
 
-ghost use Rattle.std.specs.Prelude.{◌≡◌, ◌≤◌, ◌<◌, ◌+◌, ◌*◌, ℕ, length, drop, slice_index, nat_lt, IfOk, OnErr, None, true, false};
-ghost use Rattle.std.specs.List.{list_all};
-ghost use Rattle.vc_defs.specs.Planes.{block_count, padded, unpadded};
+ghost use Rattle.std.specs.Prelude.{◌≡◌, ◌≤◌, ◌<◌, ◌+◌, ◌*◌, length, drop, IfOk, OnErr, None, true, false};
+ghost use Rattle.vc_defs.specs.Planes.{block_count};
 ghost use Rattle.vc_defs.specs.Bodies.{plane_from};
 ghost use Rattle.vc_plane.specs.Reading.{IsPlaneRead};
 
 use crate::Shape;
 use crate::blocks::{restored, show_blocks};
 use crate::entries::read_entry;
+use crate::raw::{are_samples, unpad};
 use vc_defs::Damaged;
 use vc_fwht::Transform;
 
@@ -43,37 +43,6 @@ fn read_coded<T: Transform>(t: &T, body: &[u8], at: usize, shape: &Shape, refere
         end = entry.end;
     }
     Ok(end)
-}
-
-/// Whether raw storage may have all of the bytes.
-fn are_samples(bytes: &[u8]) -> bool
-    ensures { result ≡ list_all (λ b. nat_lt b 255) bytes.now }
-{
-    bytes.iter().all(|byte| *byte < 255)
-}
-
-/// Copies some bytes from one place to another.
-fn copy_row(bytes: &[u8], from: usize, plane: &mut [u8], to: usize, count: usize)
-    requires from { from + count ≤ length bytes.now }
-    requires to { to + count ≤ length plane.old }
-    ensures copied { (k : ℕ) → k < count → slice_index plane.new (to + k) ≡ slice_index bytes.now (from + k) }
-    ensures kept { (j : ℕ) → j < to → slice_index plane.new j ≡ slice_index plane.old j }
-{
-    plane[to..to + count].copy_from_slice(&bytes[from..from + count]);
-}
-
-/// Copies the samples of a padded plane without its padding.
-fn unpad(bytes: &[u8], shape: &Shape, plane: &mut [u8])
-    requires bytes { length bytes.now ≡ padded shape.now.width * padded shape.now.height }
-    requires size { length plane.old ≡ shape.now.width * shape.now.height }
-    requires some { (0 < shape.now.width) × (0 < shape.now.height) }
-    ensures { plane.new ≡ unpadded bytes.now shape.now.width shape.now.height }
-{
-    let width = shape.width as usize;
-    let padded = 8 * width.div_ceil(8);
-    for row in 0..shape.height as usize {
-        copy_row(bytes, row * padded, plane, row * width, width);
-    }
 }
 
 /// Reads the samples of a raw plane.

@@ -1,6 +1,6 @@
 use Rattle.std.proofs.Common.{◌≡◌, ℕ, ◌+◌, ◌*◌, ◌/◌, ◌%◌, ◌<◌, length, get_or}
 use Rattle.vc_defs.specs.Planes.{padded}
-use Rattle.vc_plane.proofs.reading.unpad.Given as goal
+use Rattle.vc_plane.proofs.raw.unpad.Given as goal
 
 abbrev pub invariant-loop-row : goal.invariant-loop-row
 invariant-loop-row l = record {

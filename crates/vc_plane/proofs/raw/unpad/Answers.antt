@@ -1,7 +1,7 @@
 use Rattle.std.proofs.Common.{◌≡◌, ◌∙◌, sym, ap, subst, ℕ, ◌<◌, ◌+◌, ◌*◌, ◌/◌, ◌%◌, get_or, arith}
 use Rattle.vc_defs.specs.Planes.{padded}
-use Rattle.vc_plane.proofs.Raw.{row_more, unpadded_is}
-use Rattle.vc_plane.proofs.reading.unpad.Goals as goal
+use Rattle.vc_plane.proofs.RawSamples.{row_more, unpadded_is}
+use Rattle.vc_plane.proofs.raw.unpad.Goals as goal
 
 pub loop-row-preserved : goal.loop-row-preserved
 loop-row-preserved c =
