@@ -14,7 +14,7 @@ use vc_fwht::Transform;
 use vc_quant::dequantise;
 
 /// What a sample is coded as a difference from.
-fn base(inter: bool, reference: &[u8; 64], k: usize) -> i32
+pub(crate) fn base(inter: bool, reference: &[u8; 64], k: usize) -> i32
     requires { k < 64 }
     ensures value { result ≡ base_of inter reference.now k }
     ensures least { pos 0 ≤ℤ result }
