@@ -1,5 +1,5 @@
 -- What a run does, by the table of runs of docs/DEVICE.md.
-use Rattle.std.specs.Prelude.{ℕ, ◌≡◌, ◌≤◌, ◌++◌, length, take, drop, min, vec_len, Option, Some, IsSome, List}
+use Rattle.std.specs.Prelude.{ℕ, ◌≡◌, ◌≤◌, ◌++◌, length, take, drop, min, vec_len, Option, Some, IsTrue, is_some, List}
 use Rattle.std.specs.Option.{option_map}
 use Rattle.vc_work.specs.declared.work.Sort.{Sort}
 use Rattle.vc_work.specs.declared.work.Sort.TheVariants.{Copy}
@@ -12,13 +12,12 @@ use Rattle.vc_work.specs.declared.engine.Outcome.TheVariants.{Copied}
 abbrev pub dest_bytes : Work → Option (List ℕ)
 dest_bytes w = option_map (λ v. v.items) w.dest
 
--- what a run of the sort needs beside its source
+-- what a run of the sort needs beside its source. A copy run does not look at the cursor
 abbrev pub HasAll : Sort → Work → Type 0
-HasAll Copy w = IsSome w.dest
+HasAll Copy w = IsTrue (is_some w.dest)
 
 -- The work fits: what the run reads and writes is there.
 pub record Fits (w : Work) : Type 0 where
-  pub cursor : w.source.cursor ≤ w.source.used
   pub used : w.source.used ≤ vec_len w.source.payload
   pub all : HasAll w.sort w
 
