@@ -24,7 +24,7 @@ CountsUp [] first next = first ≡ next
 CountsUp (b ∷ bs) first next = (b.ordinal ≡ first) × CountsUp bs (first + 1) next
 
 -- the buffers that wait for a run, the one in the job first, were queued one after another, and none since
-pub record AreLatest (q : QueueState) : Type 0 where
+pub record CountsUpToNext (q : QueueState) : Type 0 where
   pub first : ℕ
   pub counts : CountsUp (q.job ++ q.ready) first q.next_ordinal
 
@@ -32,7 +32,7 @@ pub record AreLatest (q : QueueState) : Type 0 where
 -- streams has a buffer.
 pub record IsSoundQueue (q : QueueState) : Type 0 where
   pub once : OnceEach q
-  pub latest : AreLatest q
+  pub latest : CountsUpToNext q
   pub job_at_rest : q.streams ≡ false → q.job ≡ []
   pub done_at_rest : q.streams ≡ false → q.done ≡ []
   pub seq_at_rest : q.streams ≡ false → q.next_seq ≡ 0
@@ -86,20 +86,20 @@ pub record LongEnough (c : Context) : Type 0 where
   pub job : c.cap.streams ≡ true → stops_by_change c.phase ≡ false → AreLong (sizeimage c Cap) c.cap.job
 
 -- a drain that has come to its end and was not noted
-abbrev pub is_put_off : Context → Bool
-is_put_off c = is_run c.phase && (c.cap.streams && (is_none c.running && is_drained c.out.ready c.mark))
+abbrev pub drain_not_noted : Context → Bool
+drain_not_noted c = is_run c.phase && (c.cap.streams && (is_none c.running && is_drained c.out.ready c.mark))
 
 -- a LAST buffer that could be given and was not
-abbrev pub is_held_back : PhaseState → List Buffer → Bool
-is_held_back run ready = false
-is_held_back (owe cause) ready = not (is_empty ready)
-is_held_back (last cause) ready = false
-is_held_back (stopped cause) ready = false
+abbrev pub last_not_given : PhaseState → List Buffer → Bool
+last_not_given run ready = false
+last_not_given (owe cause) ready = not (is_empty ready)
+last_not_given (last cause) ready = false
+last_not_given (stopped cause) ready = false
 
 -- A drain is not put off: neither of the two is there.
 pub record IsSettled (c : Context) : Type 0 where
-  pub noted : is_put_off c ≡ false
-  pub given : is_held_back c.phase c.cap.ready ≡ false
+  pub noted : drain_not_noted c ≡ false
+  pub given : last_not_given c.phase c.cap.ready ≡ false
 
 -- the end of a drain: its LAST buffer is due or is in done
 abbrev pub is_at_end : PhaseState → Bool
@@ -109,12 +109,12 @@ is_at_end (last cause) = is_drain cause
 is_at_end (stopped cause) = false
 
 -- the mark is not above the number of buffers that were queued
-abbrev pub IsPast : Option ℕ → ℕ → Type 0
-IsPast None next = Unit {0}
-IsPast (Some mark) next = mark ≤ next
+abbrev pub MarkIsQueued : Option ℕ → ℕ → Type 0
+MarkIsQueued None next = Unit {0}
+MarkIsQueued (Some mark) next = mark ≤ next
 
 -- What holds of a context but for settling.
-pub record IsFirm (c : Context) : Type 0 where
+pub record IsSoundButUnsettled (c : Context) : Type 0 where
   pub out_side : c.out.side ≡ Out
   pub cap_side : c.cap.side ≡ Cap
   pub out : IsSoundQueue c.out
@@ -123,7 +123,7 @@ pub record IsFirm (c : Context) : Type 0 where
   pub has_codec : HasCodec c.kind c.codec
   -- a mark is there only while OUTPUT streams, and the context stops only while CAPTURE does
   pub marked : is_some c.mark ≡ true → c.out.streams ≡ true
-  pub past : IsPast c.mark c.out.next_ordinal
+  pub queued : MarkIsQueued c.mark c.out.next_ordinal
   -- at the end of a drain there is a mark, and no OUTPUT buffer before it is ready
   pub drained : is_at_end c.phase ≡ true → is_drained c.out.ready c.mark ≡ true
   pub stopping : is_run c.phase ≡ false → c.cap.streams ≡ true
@@ -131,7 +131,7 @@ pub record IsFirm (c : Context) : Type 0 where
   pub long : LongEnough c
 
 pub record IsSound (c : Context) : Type 0 where
-  pub firm : IsFirm c
+  pub firm : IsSoundButUnsettled c
   pub settled : IsSettled c
 
 -- a closed slot is sound
