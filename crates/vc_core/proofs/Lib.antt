@@ -5,3 +5,4 @@ pub mod Finishing
 pub mod Moving
 pub mod Running
 pub mod Stepping
+pub mod Slots

@@ -1,3 +1,4 @@
+pub mod Contents
 pub mod Contexts
 pub mod Jobs
 pub mod Payloads

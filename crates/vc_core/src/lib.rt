@@ -9,6 +9,7 @@
 
 mod copier;
 mod job;
+mod slot;
 
 pub use job::{Finished, Job};
 pub use vc_work::{Engine, EngineFault, Rates};
