@@ -2,3 +2,4 @@ pub mod Contents
 pub mod Contexts
 pub mod Jobs
 pub mod Payloads
+pub mod Steps
