@@ -177,7 +177,7 @@ same_layout_is Grey = refl
 same_layout_is C420 = refl
 same_layout_is C422 = refl
 
-same_geometry_is : (g : Geometry) → same_geometry g g ≡ true
+pub same_geometry_is : (g : Geometry) → same_geometry g g ≡ true
 same_geometry_is g =
     let w : nat_eq g.width g.width ≡ true = grind (arith, nat_tests) in
     let h : nat_eq g.height g.height ≡ true = grind (arith, nat_tests) in
