@@ -1,31 +1,29 @@
 -- A decoder gives exactly the encoder's own pictures.
 use Rattle.std.proofs.Common.{◌≡◌, ◌≢◌, ◌∙◌, sym, ap, refl, subst, ℕ, suc, zero, ◌+◌, ◌-◌, ◌*◌, ◌/◌, ◌%◌, ◌<◌, ◌≤◌, inl, inr, List, [], ◌∷◌, ◌++◌, length, take, drop, get_or, map, arith, append_assoc, length-append, length-drop}
 use Rattle.std.specs.Prelude.{◌⊎◌, Bool, true, false, ◌&&◌, ◌||◌, not, nat_eq, nat_le, nat_lt, cond}
-use Rattle.std.specs.List.{flat_map, range_with_len, list_any, All}
+use Rattle.std.specs.List.{flat_map, range_with_len, All}
 use Rattle.std.specs.declared.option.Option.{Option}
 use Rattle.std.specs.declared.option.Option.TheVariants.{Some, None}
-use Rattle.std.proofs.lemmas.Option.{none-some}
 use Rattle.std.proofs.lemmas.Bool.{and_parts, and_from, cond-true, cond-false, cases_lt, cases_eq}
 use Rattle.std.proofs.lemmas.Bool.Decides.{nat_tests}
-use Rattle.std.proofs.lemmas.List.{take_at, drop_at, drop-append-le, drop-drop, append-nil, get_or_append_left, get_or-append_right, get_or-drop, get_or-take}
+use Rattle.std.proofs.lemmas.List.{take_at, drop_at, drop-append-le, drop-drop, get_or_append_left, get_or-append_right}
 use Rattle.std.proofs.lemmas.List.Elements.{All-nil, All-cons, All-head, All-tail, All-from_get_or}
 use Rattle.std.proofs.lemmas.List.Folds.{list_any_none}
 use Rattle.std.proofs.lemmas.List.FromFn.{length-range_with_len, get_or-range_with_len}
 use Rattle.vc_defs.specs.declared.Geometry.{Geometry}
 use Rattle.vc_defs.specs.declared.Header.{Header}
-use Rattle.vc_defs.specs.Headers.{magic, most_bytes, header_bytes, header_from, is_legal, is_legal_geometry, is_legal_size, size_suits}
+use Rattle.vc_defs.specs.Headers.{most_bytes, header_bytes, header_from, is_legal, is_legal_geometry, is_legal_size, size_suits}
 use Rattle.vc_defs.specs.Bodies.{IsPicture, body_planes}
-use Rattle.vc_defs.specs.Places.{first_magic, Look, nothing, begun, no_header, unended, cut, whole, look_behind, look, Frame, OpenFrame, Places, joined, places_at, places_from, places, is_claimed, leaves_a_byte}
+use Rattle.vc_defs.specs.Places.{first_magic, Look, nothing, begun, no_header, unended, cut, whole, look_behind, look, Frame, Places, joined, places_at, places_from, places, is_claimed, leaves_a_byte}
 use Rattle.vc_defs.specs.Decoder.{FrameResult, Picture, Changed, GivenResult, BetweenFrames, ReferenceState, reference_planes, is_present, is_change, is_passed_over, is_next_number, same_geometry, follows_reference, frame_planes, picture_planes, present_after_header, given_at_header, given_by, given_at_end, given_then, given_in_frames, given_in, results}
-use Rattle.vc_defs.specs.Encoder.{RunRates, EncoderState, fresh_encoder, Encoded, encoded_bytes, encoded_picture, is_key_due, next_encoded, encoder_after, encoded_after, encoded}
-use Rattle.vc_defs.specs.Laws.{AreBytes, AreRates, IsReferenceOf, IsEncoderState, pictures_at, NoDrift}
+use Rattle.vc_defs.specs.Encoder.{RunRates, EncoderState, fresh_encoder, Encoded, encoded_bytes, is_key_due, next_encoded, encoder_after, encoded_after, encoded}
+use Rattle.vc_defs.specs.Laws.{AreRates, IsReferenceOf, IsEncoderState, pictures_at, NoDrift}
 use Rattle.vc_defs.proofs.Pictures.{AreSamples}
-use Rattle.vc_defs.proofs.Parsing.{some_same}
 use Rattle.vc_defs.proofs.HeaderBack.{header_back}
-use Rattle.vc_defs.proofs.Looking.{is_magic, is_start, not_true, magic_inside}
-use Rattle.vc_defs.proofs.Continuing.{Skips, not_start_long, places_shifted, more_turns}
-use Rattle.vc_defs.proofs.InnerMagic.{inner_magic, magic_there, magic_byte, ff_there}
-use Rattle.vc_defs.proofs.Encoding.{FrameFits, encoded_fits}
+use Rattle.vc_defs.proofs.Looking.{is_magic, not_true, magic_inside}
+use Rattle.vc_defs.proofs.Continuing.{Skips, not_start_long, places_shifted}
+use Rattle.vc_defs.proofs.InnerMagic.{inner_magic, magic_there, ff_there}
+use Rattle.vc_defs.proofs.Encoding.{encoded_fits}
 use Rattle.vc_defs.proofs.Ordering.{Seen, seen}
 use Rattle.vc_defs.proofs.Splitting.{Heads, first_at_front, look_front}
 use Rattle.vc_defs.proofs.Resuming.{same_geometry_is}
@@ -49,8 +47,7 @@ header_is_magic h rest = refl
 heads_of : (e : Encoded) (rest : List ℕ) → IsWritten e → Heads most_bytes (encoded_bytes e ++ rest) e.header
 heads_of e rest w =
     let long : length (header_bytes e.header) ≡ 44 = length-header_bytes most_bytes e.header w.legal in
-    let parts : encoded_bytes e ++ rest ≡ header_bytes e.header ++ (e.body ++ rest) = append_assoc (header_bytes e.header) e.body rest in
-    (
+    let parts : encoded_bytes e ++ rest ≡ header_bytes e.header ++ (e.body ++ rest) = append_assoc (header_bytes e.header) e.body rest in (
       ap (λ t. first_magic t) parts ∙ first_at_front (header_bytes e.header ++ (e.body ++ rest)) (header_is_magic e.header (e.body ++ rest)),
       omega (arith, bytes_long e w, length-append (encoded_bytes e) rest),
       ap (λ t. header_from most_bytes (take 44 t)) parts ∙ ap (λ t. header_from most_bytes t) (take_at (header_bytes e.header) (e.body ++ rest) 44 long) ∙ header_back most_bytes e.header w.legal,
@@ -314,7 +311,7 @@ good_frame g r f body planes rest b h follows read =
     let still : present_after_header f.header now ≡ now = cond-false (is_change f.header (Some g)) (record { geometry = Some f.header.geometry; reference = None }) now none in
     let present : (f.header.key || is_present (Some g) f.header.geometry) ≡ true = ap (λ x. f.header.key || x) same ∙ or_true f.header.key in
     let good : picture_planes f now ≡ Some planes =
-    ap (λ o. elim o as (λ _. Option (List (List ℕ))) [ | None ↦ None | Some body ↦ cond (f.header.key || is_present (Some g) f.header.geometry) (frame_planes f.header (Some r) body) None ]) b
+    ap (λ o. elim o as (λ _. Option (List (List ℕ))) [ None ↦ None | Some body ↦ cond (f.header.key || is_present (Some g) f.header.geometry) (frame_planes f.header (Some r) body) None ]) b
     ∙ cond-true (f.header.key || is_present (Some g) f.header.geometry) (frame_planes f.header (Some r) body) None present
     ∙ cond-true (f.header.key || follows_reference f.header (Some r)) (body_planes f.header r.planes body) None follows
     ∙ read in

@@ -1,25 +1,21 @@
 -- A body that an encoder writes is read back as its reconstruction, and no magic stands in it.
-use Rattle.std.proofs.Common.{◌≡◌, ◌∙◌, sym, ap, refl, subst, ℕ, suc, zero, ◌+◌, ◌-◌, ◌*◌, ◌/◌, ◌%◌, ◌<◌, ◌≤◌, inl, inr, List, [], ◌∷◌, ◌++◌, length, take, drop, get_or, map, arith, append_assoc, length-append}
-use Rattle.std.specs.Prelude.{◌⊎◌, ℤ, Bool, true, false, not, min, nat_lt, cond}
-use Rattle.std.specs.List.{range_with_len, All}
-use Rattle.std.specs.declared.option.Option.{Option}
-use Rattle.std.specs.declared.option.Option.TheVariants.{Some, None}
-use Rattle.std.proofs.lemmas.Bool.Decides.{nat_tests}
+use Rattle.std.proofs.Common.{◌≡◌, ◌∙◌, sym, ap, refl, subst, ℕ, suc, zero, ◌+◌, ◌-◌, ◌*◌, ◌/◌, ◌%◌, ◌<◌, ◌≤◌, inl, inr, List, [], ◌∷◌, ◌++◌, length, take, drop, get_or, map, arith, append_assoc}
+use Rattle.std.specs.Prelude.{ℤ, Bool, true, false, not, min, cond}
+use Rattle.std.specs.List.{All}
+use Rattle.std.specs.declared.option.Option.TheVariants.{Some}
 use Rattle.std.proofs.lemmas.List.{ext_get_or, get_or-map, length-map, append-nil}
 use Rattle.std.proofs.lemmas.List.FromFn.{length-map-range_with_len, get_or-map-range_with_len}
 use Rattle.std.proofs.lemmas.List.Elements.{All-nil, All-cons, All-head, All-tail, All-drop}
 use Rattle.std.proofs.lemmas.Nat.{div-mul-add, div_below, row_fits}
-use Rattle.std.proofs.Math.Nat.{mul-le-mul_left}
 use Rattle.vc_defs.specs.declared.Layout.{Layout}
 use Rattle.vc_defs.specs.declared.Layout.TheVariants.{Grey, C420, C422}
 use Rattle.vc_defs.specs.declared.Geometry.{Geometry}
-use Rattle.vc_defs.specs.Headers.{is_legal_geometry}
-use Rattle.vc_defs.specs.Words.{Words, word_bytes, words_bytes, zeros_of}
-use Rattle.vc_defs.specs.Planes.{Block, Entry, padded, padded_plane, padded_sample, raw_sample, raw_plane, unpadded, head_of, head_word, entry_bytes, entries_bytes, IsEntryOf, StandFor, Allowed, IsCodedPlane, canon_plane, block_count, coded_blocks, decoded_plane, is_raw, WrittenPlane, written_plane}
-use Rattle.vc_defs.specs.Bodies.{IsPicture, IsPlane, plane_from, planes_from, planes_behind, after_plane, if_complete, body_planes, shapes_of, plane_shapes}
-use Rattle.vc_defs.specs.Encoder.{Encoded, encoded_picture, written_planes, body_of}
-use Rattle.vc_defs.specs.Laws.{AreBytes, IsBlock}
-use Rattle.vc_defs.proofs.Pictures.{AreSamples, IsPlaneOf, ArePlanesOf, all_made, all_entry, all_weaker}
+use Rattle.vc_defs.specs.Words.{Words, word_bytes, words_bytes}
+use Rattle.vc_defs.specs.Planes.{Block, Entry, padded, padded_plane, padded_sample, raw_sample, raw_plane, unpadded, head_of, head_word, entry_bytes, entries_bytes, StandFor, Allowed, IsCodedPlane, canon_plane, block_count, coded_blocks, decoded_plane, is_raw, WrittenPlane, written_plane}
+use Rattle.vc_defs.specs.Bodies.{IsPicture, plane_from, planes_from, planes_behind, after_plane, if_complete, body_planes, shapes_of, plane_shapes}
+use Rattle.vc_defs.specs.Encoder.{encoded_picture, written_planes, body_of}
+use Rattle.vc_defs.specs.Laws.{IsBlock}
+use Rattle.vc_defs.proofs.Pictures.{AreSamples, IsPlaneOf, ArePlanesOf, all_made, all_entry}
 use Rattle.vc_defs.proofs.ParsingBodies.{plane_is_read}
 use Rattle.vc_defs.proofs.CanonPlanes.{canon_plane_stands}
 use Rattle.vc_defs.proofs.Bounds.{coded_blocks_fit}
