@@ -1,6 +1,6 @@
 -- What the tables of the format are.
-use Rattle.std.proofs.Common.{◌≡◌, ◌∙◌, sym, ap, refl, subst, ℕ, suc, zero, ◌+◌, ◌*◌, ◌/◌, ◌%◌, ◌<◌, inl, inr, List, [], ◌∷◌, ◌++◌, arith, replicate, map}
-use Rattle.std.specs.Prelude.{ℤ, pos, negsuc, ◌*ℤ◌, ◌⊎◌, Bool, true, false, ◌&&◌, ◌||◌, nat_eq, nat_lt, cond}
+use Rattle.std.proofs.Common.{◌≡◌, refl, subst, ℕ, ◌+◌, ◌*◌, ◌/◌, ◌%◌, ◌<◌, inl, inr, [], ◌∷◌, arith, replicate, map}
+use Rattle.std.specs.Prelude.{ℤ, pos, ◌*ℤ◌, ◌⊎◌, Bool, true, false, ◌&&◌, nat_eq, nat_lt, cond}
 use Rattle.std.proofs.lemmas.Bool.{and_parts, agree_below_at, cases_lt}
 use Rattle.std.proofs.lemmas.Bool.Decides.{nat_tests}
 use Rattle.vc_defs.specs.Walsh.{sum_below, walsh}

@@ -97,12 +97,12 @@ magic_4f (suc (suc (suc zero))) h = refl
 magic_4f (suc (suc (suc (suc j)))) h = absurd (omega arith)
 
 -- a byte of a magic that stands at a place
-magic_byte : (bytes : List ℕ) (o j : ℕ) → is_magic (drop o bytes) ≡ true → j < 8 → get_or bytes (o + j) 0 ≡ get_or magic j 0
+pub magic_byte : (bytes : List ℕ) (o j : ℕ) → is_magic (drop o bytes) ≡ true → j < 8 → get_or bytes (o + j) 0 ≡ get_or magic j 0
 magic_byte bytes o j e h =
     let same : magic ≡ take 8 (drop o bytes) = (bytes_eq-Decides magic (take 8 (drop o bytes))).0 e in
     sym (get_or-drop o bytes j 0) ∙ sym (get_or-take 8 (drop o bytes) j 0 h) ∙ ap (λ t. get_or t j 0) (sym same)
 
-ff_there : (bytes : List ℕ) (o i : ℕ) → is_magic (drop o bytes) ≡ true → o + 4 ≤ i → i < o + 8 → get_or bytes i 0 ≡ 255
+pub ff_there : (bytes : List ℕ) (o i : ℕ) → is_magic (drop o bytes) ≡ true → o + 4 ≤ i → i < o + 8 → get_or bytes i 0 ≡ 255
 ff_there bytes o i e h k =
     let is : i ≡ o + (4 + (i - o - 4)) = omega arith in
     ap (λ n. get_or bytes n 0) is ∙ magic_byte bytes o (4 + (i - o - 4)) e (omega arith) ∙ magic_ff (i - o - 4) (omega arith)

@@ -17,7 +17,7 @@ use Rattle.vc_defs.specs.declared.Header.{Header}
 use Rattle.vc_defs.specs.Places.{Frame, places, moved_frame}
 use Rattle.vc_defs.specs.Finds.{Find, Head, Ended, position_of, known_at, finds, moved_find, KeptBytes, stamp_in, kept_with, kept_before}
 use Rattle.vc_defs.specs.Decoder.{FrameResult, ResultKind, Picture, Damaged, Changed, GivenResult, BetweenFrames, ReferenceState, same_layout, same_geometry, is_change, is_passed_over, picture_planes, present_after_header, given_at_header, given_by, given_at_end, given_by_find, given_by_finds, present_after, moved_given, given_in, results, DecoderState, DecodedStep, state_with, kept_of, geometry_after_kind, geometry_after, decoded_by, decode}
-use Rattle.vc_defs.specs.Laws.{from_start, reached, state_at, IsReached, TellsNext, given_after, Resuming, IsKnownRight, IsNext, AreOrdered}
+use Rattle.vc_defs.specs.Laws.{from_start, present_at, state_at, IsReached, TellsNext, given_after, Resuming, IsKnownRight, IsNext, AreOrdered}
 use Rattle.vc_defs.proofs.Pictures.{all_weaker}
 use Rattle.vc_defs.proofs.Following.{present_append}
 use Rattle.vc_defs.proofs.ByFinds.{after_header, results_are_of_finds}
@@ -177,7 +177,7 @@ same_layout_is Grey = refl
 same_layout_is C420 = refl
 same_layout_is C422 = refl
 
-same_geometry_is : (g : Geometry) → same_geometry g g ≡ true
+pub same_geometry_is : (g : Geometry) → same_geometry g g ≡ true
 same_geometry_is g =
     let w : nat_eq g.width g.width ≡ true = grind (arith, nat_tests) in
     let h : nat_eq g.height g.height ≡ true = grind (arith, nat_tests) in
@@ -223,7 +223,7 @@ pub record Reached (limit : ℕ) (g : Option Geometry) (bytes : List ℕ) (given
   pub known : (more : List ℕ) → All (λ (x : GivenResult). length (drop point.at bytes) ≤ x.result.known) (given_in (drop point.at bytes ++ more) limit now.geometry now.reference)
   pub positions : (more : List ℕ) → All (λ (x : GivenResult). IsStamped (length (drop point.at bytes)) x.result.position) (given_in (drop point.at bytes ++ more) limit now.geometry now.reference)
   pub goes_on : (more : List ℕ) → drop given (from_start (bytes ++ more) limit g) ≡ map (moved_given point.at) (given_in (drop point.at bytes ++ more) limit now.geometry now.reference)
-  pub stands : (more : List ℕ) → reached (bytes ++ more) limit g given ≡ now
+  pub stands : (more : List ℕ) → present_at (bytes ++ more) limit g given ≡ now
   pub there : (more : List ℕ) → given ≤ length (from_start (bytes ++ more) limit g)
 
 -- all behind a find is known with it or later
@@ -442,7 +442,7 @@ Right limit g bytes more stamps stamp given at present step next =
     TellsNext step at bytes more (stamps_with stamps stamp (length more)) next
     × IsReached (bytes ++ take step.moved more) limit g (given_after given next)
     × (step.state ≡ state_at (bytes ++ take step.moved more) (stamps ++ replicate step.moved stamp) limit g (given_after given next))
-    × ((reached (bytes ++ take step.moved more) limit g (given_after given next)).geometry ≡ geometry_after step.given present)
+    × ((present_at (bytes ++ take step.moved more) limit g (given_after given next)).geometry ≡ geometry_after step.given present)
 
 -- the state from which a run begins
 abbrev state_of : Option ReferenceState → List ℕ → ℕ → List Stamp → DecoderState
@@ -457,7 +457,7 @@ right_none limit g bytes more stamps stamp given r long none =
     (subst (λ (t : List ℕ). TellsNext (record { given = None; stamp = stamp; moved = length more; state = state_with r.now.reference new (length xs) (stamp_in old stamp) }) p.at bytes more (stamps_with stamps stamp (length more)) []
     × IsReached (bytes ++ t) limit g given
     × (state_with r.now.reference new (length xs) (stamp_in old stamp) ≡ state_at (bytes ++ t) (stamps ++ replicate (length more) stamp) limit g given)
-    × ((reached (bytes ++ t) limit g given).geometry ≡ r.now.geometry))
+    × ((present_at (bytes ++ t) limit g given).geometry ≡ r.now.geometry))
     (sym whole)
     ((refl, refl), (r.there more, subst (λ (t : List GivenResult). All (λ (f : GivenResult). f.result.known ≡ length (bytes ++ more)) t) (sym none) (All-nil (λ (f : GivenResult). f.result.known ≡ length (bytes ++ more)))), state_right, ap (λ (q : BetweenFrames). q.geometry) (r.stands more)))
   where
@@ -502,7 +502,7 @@ right_none limit g bytes more stamps stamp given r long none =
         ∙ ap (λ (q : BetweenFrames). with_kept q.reference (kept_with (kept_of limit (bytes ++ more) (drop given (from_start (bytes ++ more) limit g))) (length (bytes ++ more)) (stamps_with stamps stamp (length more)))) (sym (r.stands more))
 
 -- what stands after one more result
-reached_next : (limit : ℕ) (g : Option Geometry) (bytes : List ℕ) (given : ℕ) (x : GivenResult) (later : List GivenResult) → drop given (from_start bytes limit g) ≡ x ∷ later → reached bytes limit g (suc given) ≡ x.present
+reached_next : (limit : ℕ) (g : Option Geometry) (bytes : List ℕ) (given : ℕ) (x : GivenResult) (later : List GivenResult) → drop given (from_start bytes limit g) ≡ x ∷ later → present_at bytes limit g (suc given) ≡ x.present
 reached_next limit g bytes given x later e =
     ap (λ t. present_after (began g) t) (take_next given (from_start bytes limit g) x later e)
     ∙ present_append (began g) (take given (from_start bytes limit g)) (x ∷ [])
@@ -648,7 +648,7 @@ right_some limit g bytes more stamps stamp given r x later long is =
         ∙ ap (λ k. kept_with new k (stamps_with stamps stamp n)) (sym taken_long)
         ∙ ap (λ t. kept_with t (length (bytes ++ here)) (stamps_with stamps stamp n)) (sym new_again)
 
-    stands : reached (bytes ++ here) limit g (suc given) ≡ x.present
+    stands : present_at (bytes ++ here) limit g (suc given) ≡ x.present
     stands = reached_next limit g (bytes ++ here) given (moved_given p.at x) (map (moved_given p.at) split.0) all_taken
 
     state_right : state_with x.present.reference (kept_of limit (take x.result.known xs) later) x.result.known (stamp_in old stamp) ≡ state_at (bytes ++ here) (stamps ++ replicate n stamp) limit g (suc given)
@@ -656,7 +656,7 @@ right_some limit g bytes more stamps stamp given r x later long is =
         ap (λ k. with_kept x.present.reference k) kept_right
         ∙ ap (λ (q : BetweenFrames). with_kept q.reference (kept_with (kept_of limit (bytes ++ here) (drop (suc given) (from_start (bytes ++ here) limit g))) (length (bytes ++ here)) (stamps_with stamps stamp n))) (sym stands)
 
-    geometry_right : (reached (bytes ++ here) limit g (suc given)).geometry ≡ geometry_after_kind x.result.kind r.now.geometry
+    geometry_right : (present_at (bytes ++ here) limit g (suc given)).geometry ≡ geometry_after_kind x.result.kind r.now.geometry
     geometry_right =
         ap (λ (q : BetweenFrames). q.geometry) stands
         ∙ first_geometry (finds xs limit) r.now x later (sym (results_are_of_finds limit r.now.geometry r.now.reference xs) ∙ is)
@@ -683,6 +683,6 @@ resuming limit g bytes more stamps stamp given long reach =
     let run = right_run limit g bytes more stamps stamp given r long in
     let run' = subst (λ (k : ℕ). Right limit g bytes more stamps stamp given k r.now.geometry (decoded_by (state_of r.now.reference (drop r.point.at bytes) (length bytes) stamps) limit (drop r.point.at bytes ++ more) stamp (given_in (drop r.point.at bytes ++ more) limit r.now.geometry r.now.reference)) (drop given (from_start (bytes ++ more) limit g))) (sym at) run in
     let kept : kept_of limit bytes (drop given (from_start bytes limit g)) ≡ drop r.point.at bytes = r.kept ∙ kept_is limit bytes r.told r.point in
-    let stands : reached bytes limit g given ≡ r.now = ap (λ t. reached t limit g given) (sym (append-nil bytes)) ∙ r.stands [] in
+    let stands : present_at bytes limit g given ≡ r.now = ap (λ t. present_at t limit g given) (sym (append-nil bytes)) ∙ r.stands [] in
     let run'' = subst (λ (t : List ℕ). Right limit g bytes more stamps stamp given (length bytes - length t) r.now.geometry (decoded_by (state_of r.now.reference t (length bytes) stamps) limit (t ++ more) stamp (given_in (t ++ more) limit r.now.geometry r.now.reference)) (drop given (from_start (bytes ++ more) limit g))) (sym kept) run' in
     subst (λ (q : BetweenFrames). Right limit g bytes more stamps stamp given (length bytes - length (kept_of limit bytes (drop given (from_start bytes limit g)))) q.geometry (decoded_by (state_of q.reference (kept_of limit bytes (drop given (from_start bytes limit g))) (length bytes) stamps) limit (kept_of limit bytes (drop given (from_start bytes limit g)) ++ more) stamp (given_in (kept_of limit bytes (drop given (from_start bytes limit g)) ++ more) limit q.geometry q.reference)) (drop given (from_start (bytes ++ more) limit g))) (sym stands) run''

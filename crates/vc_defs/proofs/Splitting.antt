@@ -21,7 +21,7 @@ Heads limit xs h = (first_magic xs ≡ Some 0) × (44 ≤ length xs) × (header_
 pub heads_more : (limit : ℕ) (xs more : List ℕ) (h : Header) → Heads limit xs h → Heads limit (xs ++ more) h
 heads_more limit xs more h p = (magic_stays xs more 0 p.0, omega (arith, p.1, length-append xs more), ap (λ t. header_from limit t) (take-append-le 44 xs more p.1) ∙ p.2)
 
-first_at_front : (xs : List ℕ) → is_magic xs ≡ true → first_magic xs ≡ Some 0
+pub first_at_front : (xs : List ℕ) → is_magic xs ≡ true → first_magic xs ≡ Some 0
 first_at_front [] e = let clash : false ≡ true = e in absurd cc
 first_at_front (x ∷ xs) e = cond-true (is_magic (x ∷ xs)) (Some 0) (one_further (first_magic xs)) e
 
@@ -59,17 +59,17 @@ behind_at_header h xs o = by_inner o
     by_inner None = by_end (nat_le (44 + h.size) (length xs))
     by_inner (Some n) = by_cut n (nat_le (8 + n + 8) (44 + h.size))
 
-look_at_header_is : (limit : ℕ) (xs : List ℕ) (h : Header) → Heads limit xs h → AtHeader h (look limit xs)
+-- the look at bytes with a header at their front
+pub look_front : (limit : ℕ) (xs : List ℕ) (h : Header) → Heads limit xs h → look limit xs ≡ look_behind 0 h xs (first_magic (drop 8 xs))
 unfolding look
-look_at_header_is limit xs h p =
+look_front limit xs h p =
     let long : 44 ≤ length xs = p.1 in
-    subst (λ (l : Look). AtHeader h l)
-    (sym (
     ap (λ o. look_from limit xs o) p.0
     ∙ cond-false (nat_lt (length xs) 44) (begun 0) (look_at_header 0 xs (header_from limit (take 44 xs))) (grind (arith, nat_tests))
     ∙ ap (λ o. look_at_header 0 xs o) p.2
-    ))
-    (behind_at_header h xs (first_magic (drop 8 xs)))
+
+look_at_header_is : (limit : ℕ) (xs : List ℕ) (h : Header) → Heads limit xs h → AtHeader h (look limit xs)
+look_at_header_is limit xs h p = subst (λ (l : Look). AtHeader h l) (sym (look_front limit xs h p)) (behind_at_header h xs (first_magic (drop 8 xs)))
 
 pub heads_places : (turns limit c : ℕ) (xs : List ℕ) (h : Header) → Heads limit xs h → HeadsPlaces c xs h (places_from (suc turns) limit c xs)
 unfolding AtHeader

@@ -1,7 +1,7 @@
 -- What waits between two runs, and what a state leaves out.
-use Rattle.std.proofs.Common.{◌≡◌, ◌∙◌, sym, ap, refl, subst, ℕ, suc, zero, ◌+◌, ◌-◌, ◌*◌, ◌/◌, ◌<◌, ◌≤◌, inl, inr, List, [], ◌∷◌, ◌++◌, length, take, drop, map, arith, length-append, length-take}
-use Rattle.std.specs.Prelude.{◌⊎◌, Bool, true, false, ◌&&◌, not, nat_eq, nat_lt, cond}
-use Rattle.std.specs.List.{flat_map, list_all, All}
+use Rattle.std.proofs.Common.{◌≡◌, ◌∙◌, sym, ap, refl, subst, ℕ, suc, zero, ◌*◌, ◌≤◌, inl, inr, List, [], ◌∷◌, ◌++◌, length, take, drop, map, arith, length-append, length-take}
+use Rattle.std.specs.Prelude.{◌⊎◌, Bool, true, false, ◌&&◌, not, nat_eq}
+use Rattle.std.specs.List.{flat_map, All}
 use Rattle.std.specs.Int.{w32, to_be_bytes}
 use Rattle.std.specs.declared.option.Option.{Option}
 use Rattle.std.specs.declared.option.Option.TheVariants.{Some, None}
@@ -9,21 +9,21 @@ use Rattle.std.proofs.lemmas.Bool.{and_parts, cond-true}
 use Rattle.std.proofs.lemmas.Bool.Decides.{nat_tests}
 use Rattle.std.proofs.lemmas.List.{take-append-le, append-nil}
 use Rattle.std.specs.List.{drop-map}
-use Rattle.std.proofs.lemmas.List.Elements.{All-head, All-drop}
-use Rattle.vc_base.specs.declared.Stamp.{Stamp}
+use Rattle.std.proofs.lemmas.List.Elements.{All-nil, All-head, All-drop}
 use Rattle.vc_defs.specs.declared.Layout.{Layout}
 use Rattle.vc_defs.specs.declared.Layout.TheVariants.{Grey, C420, C422}
 use Rattle.vc_defs.specs.declared.Geometry.{Geometry}
 use Rattle.vc_defs.specs.declared.Header.{Header}
 use Rattle.vc_defs.specs.Headers.{header_bytes, header_fields, is_legal, header_from}
-use Rattle.vc_defs.specs.Finds.{Find, Head, finds}
-use Rattle.vc_defs.specs.Decoder.{FrameResult, ResultKind, Picture, Damaged, Changed, GivenResult, BetweenFrames, same_layout, same_geometry, is_present, is_change, given_by_find, given_by_finds, present_after, moved_given, given_in}
-use Rattle.vc_defs.specs.Laws.{from_start, reached, state_at, IsReached, IsNoChange, IsNext, IsNextIfAny, AreOrdered, ChangeIsSeen, IsChangeNext, GivenStays, IsDamageAtMost, NothingWaits}
+use Rattle.vc_defs.specs.Places.{places, look}
+use Rattle.vc_defs.specs.Finds.{Head, finds}
+use Rattle.vc_defs.specs.Decoder.{FrameResult, ResultKind, Picture, Damaged, Changed, GivenResult, BetweenFrames, same_layout, same_geometry, is_change, given_by_find, given_by_finds, present_after, moved_given, given_in}
+use Rattle.vc_defs.specs.Laws.{from_start, present_at, IsNoChange, IsNext, AreOrdered, ChangeIsSeen, IsChangeNext, GivenStays, IsDamageAtMost, NothingWaits, IsEndAt, BeginsFresh}
 use Rattle.vc_defs.proofs.Parsing.{some_same}
 use Rattle.vc_defs.proofs.HeaderBack.{kept, headers_read}
 use Rattle.vc_defs.proofs.ByFinds.{results_are_of_finds}
 use Rattle.vc_defs.proofs.ResultOrder.{just_results, results_stay, results_are_inside}
-use Rattle.vc_defs.proofs.Kept.{Told, kept_is, first_find}
+use Rattle.vc_defs.proofs.Kept.{kept_is, first_find}
 use Rattle.vc_defs.proofs.Resuming.{Reached, reached_of, change_of, skip_gives, just_ordered}
 
 pub given_stays : GivenStays
@@ -130,10 +130,10 @@ change_is_seen limit g bytes stamps given h reach e key =
     r : Reached limit g bytes given
     r = reached_of limit g bytes given reach
 
-    stands : reached bytes limit g given ≡ r.now
-    stands = ap (λ t. reached t limit g given) (sym (append-nil bytes)) ∙ r.stands []
+    stands : present_at bytes limit g given ≡ r.now
+    stands = ap (λ t. present_at t limit g given) (sym (append-nil bytes)) ∙ r.stands []
 
-    none_new : is_change h r.now.geometry ≡ false → ((reached bytes limit g given).geometry ≡ Some h.geometry) ⊎ IsChangeNext (drop given (from_start bytes limit g))
+    none_new : is_change h r.now.geometry ≡ false → ((present_at bytes limit g given).geometry ≡ Some h.geometry) ⊎ IsChangeNext (drop given (from_start bytes limit g))
     none_new n = inl (ap (λ (q : BetweenFrames). q.geometry) stands ∙ present_geometry h r.now.geometry key n)
 
     -- the first result from the header on
@@ -151,11 +151,11 @@ change_is_seen limit g bytes stamps given h reach e key =
         ) in
         subst (λ (t : List GivenResult). IsChangeNext t) (sym all) (h.geometry, refl)
 
-    by_change : (b : Bool) → is_change h r.now.geometry ≡ b → finds (drop r.point.at bytes) limit ≡ Head 0 h ∷ drop 1 (finds (drop r.point.at bytes) limit) → ((reached bytes limit g given).geometry ≡ Some h.geometry) ⊎ IsChangeNext (drop given (from_start bytes limit g))
+    by_change : (b : Bool) → is_change h r.now.geometry ≡ b → finds (drop r.point.at bytes) limit ≡ Head 0 h ∷ drop 1 (finds (drop r.point.at bytes) limit) → ((present_at bytes limit g given).geometry ≡ Some h.geometry) ⊎ IsChangeNext (drop given (from_start bytes limit g))
     by_change true c first = inr (next_is first c)
     by_change false c first = none_new c
 
-    by_point : header_from limit (take 44 (drop r.point.at bytes)) ≡ Some h → ((reached bytes limit g given).geometry ≡ Some h.geometry) ⊎ IsChangeNext (drop given (from_start bytes limit g))
+    by_point : header_from limit (take 44 (drop r.point.at bytes)) ≡ Some h → ((present_at bytes limit g given).geometry ≡ Some h.geometry) ⊎ IsChangeNext (drop given (from_start bytes limit g))
     by_point e =
         elim r.point.here [
           | inl a ↦ absurd (omega (arith, header_long limit (drop r.point.at bytes) h e, a.1.1))
@@ -169,3 +169,13 @@ change_is_seen limit g bytes stamps given h reach e key =
                     none_new (ap (λ i. is_change i r.now.geometry) (sym same) ∙ skip_gives limit g bytes r.told r.point.at a.1 r.now (sym (r.by_told)))
               ]
         ]
+
+pub begins_fresh : BeginsFresh
+unfolding given_in finds places look
+begins_fresh limit g = (
+  (omega arith, All-nil (λ (f : GivenResult). f.result.known ≡ 0)),
+  refl,
+  refl,
+  (omega arith, All-nil (IsEndAt 0)),
+  refl,
+)

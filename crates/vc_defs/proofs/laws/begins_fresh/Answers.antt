@@ -1,0 +1,5 @@
+use Rattle.vc_defs.proofs.Waiting.{begins_fresh}
+use Rattle.vc_defs.proofs.laws.begins_fresh.Goals as goal
+
+pub returns : goal.returns
+returns c = begins_fresh
