@@ -1,0 +1,9 @@
+pub mod EntrySteps
+pub mod Ranges
+pub mod Shown
+pub mod Parsed
+pub mod RawSamples
+pub mod Sums
+pub mod WritingSteps
+pub mod Coded
+pub mod WrittenPlanes

@@ -1,0 +1,60 @@
+-- New buffers of a queue.
+use Rattle.std.specs.Prelude.{ℕ, ◌≡◌, ◌<◌, ◌≤◌, ◌==◌, ◌||◌, ◌&&◌, nat_lt, Bool, true, false, length, replicate, Option, Some, None, Result, List, [], ◌∷◌, ◌++◌}
+use Rattle.std.specs.Option.{option_map}
+use Rattle.vc_base.specs.declared.Side.{Side}
+use Rattle.vc_base.specs.declared.Side.TheVariants.{Out, Cap}
+use Rattle.vc_base.specs.declared.Errno.{Errno}
+use Rattle.vc_base.specs.declared.Errno.TheVariants.{NoMem}
+use Rattle.vc_base.specs.Buffers.{QueueState, buffer_count, held_buffer, new_buffers, longest_buffer, most_buffers}
+use Rattle.vc_queue.specs.Answers.{answer_of, after_of}
+use Rattle.vc_queue.specs.Holds.{HoldState, side_of, held_payload}
+use Rattle.vc_queue.specs.Payloads.{payload_at}
+use Rattle.vc_queue.specs.Releasing.{other_side}
+
+-- the refusal of a call that takes memory: want of it comes after every other test
+abbrev pub with_memory : Bool → Option Errno → Option Errno
+with_memory true refusal = refusal
+with_memory false (Some errno) = Some errno
+with_memory false None = Some NoMem
+
+-- a queue with so many buffers cannot get `count` more of the size
+abbrev pub cannot_grow : ℕ → ℕ → ℕ → Bool
+cannot_grow buffers count size =
+    (nat_lt size 1 || nat_lt longest_buffer size) || (nat_lt 0 count && (buffers == most_buffers))
+
+-- The answer of a call that takes memory, and the queue after it. `found` says whether memory was found.
+pub record AnswersWithMemory {A : Type 0} (refusal : Option Errno) (value : A) (after : QueueState) (result : Result A Errno) (old new : QueueState) : Type 0 where
+  pub found : Bool
+  pub answer : result ≡ answer_of (with_memory found refusal) value
+  pub state : new ≡ after_of (with_memory found refusal) old after
+
+-- the payloads of the first n buffers, and those of the other side, stay with the user
+pub record KeepsFirst (side : Side) (n : ℕ) (old new : HoldState) : Type 0 where
+  pub first : (i : ℕ) → i < n → held_payload new side i ≡ held_payload old side i
+  pub other : side_of new (other_side side) ≡ side_of old (other_side side)
+
+-- payloads of one size from a place on
+abbrev pub HasNew : ℕ → ℕ → ℕ → List (Option (List ℕ)) → Type 0
+HasNew first end size payloads =
+    (i : ℕ) → first ≤ i → i < end → option_map length (payload_at payloads i) ≡ Some size
+
+-- the payload has the size
+abbrev pub IsLong : List ℕ → ℕ → Type 0
+IsLong payload size = length payload ≡ size
+
+-- one buffer more
+abbrev pub one_added : QueueState → ℕ → QueueState
+one_added q size = record q { held = q.held ++ held_buffer (buffer_count q) size ∷ [] }
+
+-- so many buffers more
+abbrev pub added : QueueState → ℕ → ℕ → QueueState
+added q size n = record q { held = q.held ++ new_buffers size (buffer_count q) n }
+
+-- a queue without buffers
+abbrev pub cleared : QueueState → QueueState
+cleared q = record q { held = []; ready = []; job = []; done = [] }
+
+-- no payload of the side is held
+abbrev pub without_side : HoldState → Side → HoldState
+without_side h Out = record h { out = replicate 32 None }
+without_side h Cap = record h { cap = replicate 32 None }
