@@ -93,9 +93,15 @@ mark_at : (coder : Coder) (c y : Context) (e : SoloEvent) → IsOrdered c → (s
 unfolding MarkAfter
 mark_at coder c y e s next = subst (MarkAfter c e (solo_step coder (Some c) e).told) next (step_mark coder c (step_of coder c e s))
 
+set_now : (old new : Option ℕ) → (is_none old && is_some new) ≡ true → (new ≡ old → ⊥) × (new ≡ None → ⊥)
+set_now None None e = absurd (false≢true e)
+set_now None (Some m) e = (λ p. cc, λ p. cc)
+set_now (Some m) new e = absurd (false≢true e)
+
 pub drains_begin : DrainsBeginAtStop
-drains_begin coder events e before after at next mark none some =
-    ⊎_elim (λ (p : after.mark ≡ before.mark). absurd (let q : None ≡ Some mark = sym none ∙ (sym p ∙ some) in cc)) (λ (p : (after.mark ≡ None) ⊎ ((before.mark ≡ None) × (after.mark ≡ Some before.out.next_ordinal) × (is_stop e (solo_step coder (Some before) e).told ≡ true))). ⊎_elim (λ (q : after.mark ≡ None). absurd (let t : None ≡ Some mark = sym q ∙ some in cc)) (λ (q : (before.mark ≡ None) × (after.mark ≡ Some before.out.next_ordinal) × (is_stop e (solo_step coder (Some before) e).told ≡ true)). (q.2, (let t : Some mark ≡ Some before.out.next_ordinal = sym some ∙ q.1 in cc))) p) (mark_at coder before after e (subst IsOrderedSlot at (always_ordered coder events)) next)
+drains_begin coder events e before after at next begins =
+    let new = set_now before.mark after.mark begins in
+    ⊎_elim (λ (p : after.mark ≡ before.mark). absurd (new.0 p)) (λ (p : (after.mark ≡ None) ⊎ ((before.mark ≡ None) × (after.mark ≡ Some before.out.next_ordinal) × (is_stop e (solo_step coder (Some before) e).told ≡ true))). ⊎_elim (λ (q : after.mark ≡ None). absurd (new.1 q)) (λ (q : (before.mark ≡ None) × (after.mark ≡ Some before.out.next_ordinal) × (is_stop e (solo_step coder (Some before) e).told ≡ true)). (q.2, q.1)) p) (mark_at coder before after e (subst IsOrderedSlot at (always_ordered coder events)) next)
 
 pub marks_stay : MarksStay
 marks_stay coder events e before after at next mark some =

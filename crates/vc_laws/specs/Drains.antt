@@ -55,7 +55,7 @@ is_stop e told = false
 -- A drain begins at a STOP alone, and its mark is the number of OUTPUT buffers queued before it.
 abbrev pub DrainsBeginAtStop : Type 0
 DrainsBeginAtStop =
-    AtEveryStep (λ before e told after. (mark : ℕ) → before.mark ≡ None → after.mark ≡ Some mark → (is_stop e told ≡ true) × (mark ≡ before.out.next_ordinal))
+    AtEveryStep (λ before e told after. begins_drain (Some before) (Some after) ≡ true → (is_stop e told ≡ true) × (after.mark ≡ Some before.out.next_ordinal))
 
 -- Until it is removed the mark stays as it was set.
 abbrev pub MarksStay : Type 0
