@@ -23,31 +23,31 @@ use Rattle.vc_model.specs.Coder.{CodecState, reset}
 use Rattle.vc_defs.specs.Encoder.{RunRates}
 use Rattle.vc_model.specs.Context.{Context, Slot, Running, Cause, drain, change, PhaseState, run, owe, last, stopped, fresh_context, codec_at_open, queue_of, with_queue, is_run, sizeimage, is_dec, is_enc, is_drained, has_before}
 use Rattle.vc_model.specs.Answer.{Answer, unchanged, refused, answered, unless, if_found, unless_or_block, desc_answer, set_refusal, set_answer, after_new_format, reqbufs_answer, after_new_buffers, create_answer, query_answer, qbuf_answer, is_part_of_picture, taken_answer, dqbuf_answer, after_taking, stop_at_last, is_ended, streamon_answer, streamoff_answer, streamoff_effect, without_drain_stop, after_output_off, mark_after_restart, after_capture_off, both_stream, is_stopped_by_drain, stop_answer, start_is_early, start_answer, command_answer, value_answer, control_answer, context_answer, closed_answer, answer}
-use Rattle.vc_model.specs.Sound.{IsSoundQueue, HasItsBuffers, HasCodec, ends_with_last, is_last, stops_by_change, AreLong, is_at_end, MarkIsQueued, IsSoundButUnsettled, IsSound, IsSoundSlot}
+use Rattle.vc_model.specs.Sound.{IsSoundQueue, HasItsBuffers, HasCodec, ends_with_last, is_last, stops_by_change, AreLong, is_at_end, MarkIsQueued, IsSoundButUnsettled, IsOrdered, IsOrderedSlot}
 use Rattle.vc_model.proofs.Tests.{and_left, not_true, not_false}
 use Rattle.vc_model.proofs.Queues.{no_longer, new_sound, reqbufs_sound, create_sound, queue_sound, queued_ordinal, queued_size, take_sound, streamon_sound, streamoff_sound}
 use Rattle.vc_model.proofs.Firm.{run_no_change, idle, without_job, no_job_there, events_firm, rates_firm, formats_firm, out_firm, cap_firm, settle_sound, codec_reset}
 
 -- Refusals
 
-refused_split : (t : Bool) (e : Errno) (o : Option Errno) → refuse_if t e o ≡ None → (t ≡ false) × (o ≡ None)
+pub refused_split : (t : Bool) (e : Errno) (o : Option Errno) → refuse_if t e o ≡ None → (t ≡ false) × (o ≡ None)
 refused_split true e o p = absurd (cc)
 refused_split false e o p = (refl, p)
 
 -- a refusal leaves the context, and else the effect counts
-unless_sound : (c : Context) (o : Option Errno) (a : Answer) → IsSound c → (o ≡ None → IsSoundSlot a.slot) → IsSoundSlot (unless c o a).slot
+unless_sound : (c : Context) (o : Option Errno) (a : Answer) → IsOrdered c → (o ≡ None → IsOrderedSlot a.slot) → IsOrderedSlot (unless c o a).slot
 unless_sound c None a s h = h refl
 unless_sound c (Some e) a s h = s
 
-if_found_sound : (c : Context) (found : Bool) (a : Answer) → IsSound c → IsSoundSlot a.slot → IsSoundSlot (if_found c found a).slot
+if_found_sound : (c : Context) (found : Bool) (a : Answer) → IsOrdered c → IsOrderedSlot a.slot → IsOrderedSlot (if_found c found a).slot
 if_found_sound c true a s h = h
 if_found_sound c false a s h = s
 
-unless_running_sound : (c : Context) (b : Bool) (a : Answer) → IsSound c → (b ≡ true → IsSoundSlot a.slot) → IsSoundSlot (cond b a (unchanged c Blocked)).slot
+unless_running_sound : (c : Context) (b : Bool) (a : Answer) → IsOrdered c → (b ≡ true → IsOrderedSlot a.slot) → IsOrderedSlot (cond b a (unchanged c Blocked)).slot
 unless_running_sound c true a s h = h refl
 unless_running_sound c false a s h = s
 
-or_block_sound : (c : Context) (o : Option Errno) (block : Bool) (a : Answer) → IsSound c → (o ≡ None → IsSoundSlot a.slot) → IsSoundSlot (unless_or_block c o block a).slot
+or_block_sound : (c : Context) (o : Option Errno) (block : Bool) (a : Answer) → IsOrdered c → (o ≡ None → IsOrderedSlot a.slot) → IsOrderedSlot (unless_or_block c o block a).slot
 or_block_sound c None block a s h = h refl
 or_block_sound c (Some Again) true a s h = s
 or_block_sound c (Some Again) false a s h = s
@@ -103,12 +103,12 @@ restart_end (stopped change) e = absurd (false≢true e)
 
 -- Formats
 
-desc_sound : (c : Context) (o : Option Fourcc) → IsSound c → IsSoundSlot (desc_answer c o).slot
+desc_sound : (c : Context) (o : Option Fourcc) → IsOrdered c → IsOrderedSlot (desc_answer c o).slot
 desc_sound c None s = s
 desc_sound c (Some fourcc) s = s
 
 -- a queue without buffers does not stream
-no_buffers : (q : QueueState) → IsSoundQueue q → buffer_count q ≤ 0 → (b : Bool) → q.streams ≡ b → b ≡ false
+pub no_buffers : (q : QueueState) → IsSoundQueue q → buffer_count q ≤ 0 → (b : Bool) → q.streams ≡ b → b ≡ false
 no_buffers q s n true e = let f = s.filled e in absurd (omega arith)
 no_buffers q s n false e = refl
 
@@ -128,7 +128,7 @@ new_format_firm Enc Cap c formats s f = formats_firm c formats c.codec c.geometr
 new_format_firm Dec Out c formats s f = formats_firm c formats c.codec None f.has_codec s f
 new_format_firm Dec Cap c formats s f = formats_firm c formats c.codec c.geometry f.has_codec s f
 
-set_sound : (c : Context) (side : Side) (want : Format) → IsSound c → IsSoundSlot (set_answer c side want).slot
+set_sound : (c : Context) (side : Side) (want : Format) → IsOrdered c → IsOrderedSlot (set_answer c side want).slot
 set_sound c side want s =
     unless_sound c (set_refusal c side) _ s (λ (p : set_refusal c side ≡ None). settle_sound _ (new_format_firm c.kind side c _ (set_quiet c side s.firm p) s.firm))
 
@@ -157,7 +157,7 @@ new_capture_firm Enc c count size s f =
 new_capture_firm Dec c count size s f =
     cap_firm c (reqbufs_after c.cap count size) f.cap_side (reqbufs_sound c.cap count size s f.cap) (sym (f.cap.job_at_rest s)) (λ e. e) (λ e. no_longer c.cap.streams (f.stopping (last_is_stop c.phase e)) s) (λ e p. refl) (λ e p. refl) f
 
-reqbufs_slot : (c : Context) (side : Side) (count : ℕ) (found : Bool) → IsSound c → IsSoundSlot (reqbufs_answer c side count found).slot
+reqbufs_slot : (c : Context) (side : Side) (count : ℕ) (found : Bool) → IsOrdered c → IsOrderedSlot (reqbufs_answer c side count found).slot
 reqbufs_slot c Out count found s =
     unless_sound c (refuse_if c.out.streams Busy None) _ s (λ (p : refuse_if c.out.streams Busy None ≡ None). if_found_sound c found _ s (settle_sound _ (new_buffers_firm c.kind c count (sizeimage c Out) (refused_split c.out.streams Busy None p).0 s.firm)))
 reqbufs_slot c Cap count found s =
@@ -169,13 +169,13 @@ create_firm c Out count size f =
 create_firm c Cap count size f =
     cap_firm c (create_after c.cap count size) f.cap_side (create_sound c.cap count size f.cap) refl (λ e. e) f.ends f.long.ready f.long.job f
 
-create_slot : (c : Context) (side : Side) (count size : ℕ) (found : Bool) → IsSound c → IsSoundSlot (create_answer c side count size found).slot
+create_slot : (c : Context) (side : Side) (count size : ℕ) (found : Bool) → IsOrdered c → IsOrderedSlot (create_answer c side count size found).slot
 create_slot c side count size found s =
     let q = queue_of c side in
     let a = answered (with_queue c side (create_after q count size)) (Created (buffer_count q) (created q count)) in
     unless_sound c (create_refusal q count size) (if_found c found a) s (λ (p : create_refusal q count size ≡ None). if_found_sound c found a s (settle_sound (with_queue c side (create_after q count size)) (create_firm c side count size s.firm)))
 
-query_sound : (c : Context) (o : Option Reply) → IsSound c → IsSoundSlot (query_answer c o).slot
+query_sound : (c : Context) (o : Option Reply) → IsOrdered c → IsOrderedSlot (query_answer c o).slot
 query_sound c None s = s
 query_sound c (Some reply) s = s
 
@@ -206,7 +206,7 @@ queue_firm c Out k used stamp bytes b e l f =
 queue_firm c Cap k used stamp bytes b e l f =
     subst (λ o. IsSoundButUnsettled (record c { cap = queue_held c.cap k o used stamp bytes })) (sym e) (queue_cap_firm c k used stamp bytes b e l f)
 
-queue_slot : (c : Context) (side : Side) (k used : ℕ) (stamp : Stamp) (bytes : List ℕ) → IsSound c → IsSoundSlot (qbuf_answer c side k used stamp bytes).slot
+queue_slot : (c : Context) (side : Side) (k used : ℕ) (stamp : Stamp) (bytes : List ℕ) → IsOrdered c → IsOrderedSlot (qbuf_answer c side k used stamp bytes).slot
 queue_slot c side k used stamp bytes s =
     let q = queue_of c side in
     unless_sound c (held_refusal q.side (with_index k q.held) used (sizeimage c side)) _ s (λ (p : held_refusal q.side (with_index k q.held) used (sizeimage c side) ≡ None). let b = queued_fits q.side (with_index k q.held) used (sizeimage c side) p in unless_sound c (refuse_if (is_part_of_picture c side used) Inval None) (answered (with_queue c side (qbuf_after q k used stamp bytes)) Done) s (λ (r : refuse_if (is_part_of_picture c side used) Inval None ≡ None). settle_sound (with_queue c side (qbuf_after q k used stamp bytes)) (queue_firm c side k used stamp bytes b.0 b.1.0 b.1.1 s.firm)))
@@ -259,21 +259,21 @@ take_out_firm : (c : Context) (b : Buffer) (rest : List Buffer) → c.out.done �
 take_out_firm c b rest d s f =
     out_firm c (take_front c.out (b ∷ rest)) c.codec c.geometry f.out_side (take_sound c.out b rest d s f.out) refl (λ e. e) f.queued f.drained f.has_codec f
 
-take_slot : (c : Context) (side : Side) (ds : List Buffer) → (queue_of c side).done ≡ ds → (queue_of c side).streams ≡ true → IsSound c → IsSoundSlot (taken_answer c side ds).slot
+take_slot : (c : Context) (side : Side) (ds : List Buffer) → (queue_of c side).done ≡ ds → (queue_of c side).streams ≡ true → IsOrdered c → IsOrderedSlot (taken_answer c side ds).slot
 take_slot c side [] d t s = s
 take_slot c Out (b ∷ rest) d t s =
     settle_sound (record c { out = dqbuf_after c.out }) (subst (λ l. IsSoundButUnsettled (record c { out = take_front c.out l })) (sym d) (take_out_firm c b rest d t s.firm))
 take_slot c Cap (b ∷ rest) d t s =
     settle_sound (after_taking (record c { cap = dqbuf_after c.cap }) Cap) (subst (λ l. IsSoundButUnsettled (after_taking (record c { cap = take_front c.cap l }) Cap)) (sym d) (take_cap_firm c b rest d t s.firm c.phase refl))
 
-dqbuf_slot : (c : Context) (side : Side) (block : Bool) → IsSound c → IsSoundSlot (dqbuf_answer c side block).slot
+dqbuf_slot : (c : Context) (side : Side) (block : Bool) → IsOrdered c → IsOrderedSlot (dqbuf_answer c side block).slot
 dqbuf_slot c side block s =
     let q = queue_of c side in
     or_block_sound c (dqbuf_refusal q (is_ended c side)) block (taken_answer c side q.done) s (λ (p : dqbuf_refusal q (is_ended c side) ≡ None). take_slot c side q.done refl (not_false q.streams (refused_split (not q.streams) Inval _ p).0) s)
 
 -- StreamOn
 
-positive : (n : ℕ) → eqb n 0 ≡ false → 0 < n
+pub positive : (n : ℕ) → eqb n 0 ≡ false → 0 < n
 positive zero e = absurd (false≢true (sym e))
 positive (suc n) e = omega arith
 
@@ -293,7 +293,7 @@ on_firm c true e p f =
 on_firm c false e p f =
     cap_firm c (streamon_after c.cap) f.cap_side (streamon_sound c.cap (on_number c.cap (sizeimage c Cap) f.cap false e p) f.cap) refl (λ x. refl) f.ends (λ x y. on_long c.cap (sizeimage c Cap) f.cap_side p) (λ x y. subst (AreLong (sizeimage c Cap)) (sym (f.cap.job_at_rest e)) refl) f
 
-streamon_slot : (c : Context) (side : Side) → IsSound c → IsSoundSlot (streamon_answer c side).slot
+streamon_slot : (c : Context) (side : Side) → IsOrdered c → IsOrderedSlot (streamon_answer c side).slot
 streamon_slot c Out s =
     let f = s.firm in
     unless_sound c (streamon_refusal c.out (sizeimage c Out)) (answered (record c { out = streamon_after c.out }) Done) s (λ (p : streamon_refusal c.out (sizeimage c Out) ≡ None). settle_sound (record c { out = streamon_after c.out }) (out_firm c (streamon_after c.out) c.codec c.geometry f.out_side (streamon_sound c.out (on_number c.out (sizeimage c Out) f.out c.out.streams refl p) f.out) refl (λ e. refl) f.queued f.drained f.has_codec f))
@@ -320,7 +320,7 @@ restart_last (last change) e = refl
 restart_last (stopped drain) e = e
 restart_last (stopped change) e = e
 
-restart_change : (p : PhaseState) → stops_by_change p ≡ stops_by_change (without_drain_stop p)
+pub restart_change : (p : PhaseState) → stops_by_change p ≡ stops_by_change (without_drain_stop p)
 restart_change run = refl
 restart_change (owe drain) = refl
 restart_change (owe change) = refl
@@ -338,7 +338,7 @@ kept_mark (last change) m e = e
 kept_mark (stopped drain) m e = absurd (false≢true e)
 kept_mark (stopped change) m e = e
 
-none_is : (o : Option Running) → is_none o ≡ true → o ≡ None
+pub none_is : (o : Option Running) → is_none o ≡ true → o ≡ None
 none_is None e = refl
 none_is (Some r) e = absurd (false≢true e)
 
@@ -401,7 +401,7 @@ off_firm : (c : Context) (side : Side) → is_none c.running ≡ true → IsSoun
 off_firm c Out n f = output_off_firm c.kind c n f
 off_firm c Cap n f = capture_split c c.cap.streams refl n f
 
-streamoff_slot : (c : Context) (side : Side) → IsSound c → IsSoundSlot (streamoff_answer c side).slot
+streamoff_slot : (c : Context) (side : Side) → IsOrdered c → IsOrderedSlot (streamoff_answer c side).slot
 streamoff_slot c side s =
     unless_running_sound c (is_none c.running) (answered (streamoff_effect c side) Done) s (λ (n : is_none c.running ≡ true). settle_sound (streamoff_effect c side) (off_firm c side n s.firm))
 
@@ -453,52 +453,52 @@ running_firm c l f =
     buffers_for None h = h
     buffers_for (Some r) h = (refl, h.1, h.2)
 
-stop_split : (c : Context) (a b d : Bool) → both_stream c ≡ a → is_some c.mark ≡ b → IsSound c → IsSoundSlot (cond (not a) (unchanged c Done) (cond b (refused c Busy) (cond d (unchanged c Done) (answered (record c { mark = Some c.out.next_ordinal }) Done)))).slot
+stop_split : (c : Context) (a b d : Bool) → both_stream c ≡ a → is_some c.mark ≡ b → IsOrdered c → IsOrderedSlot (cond (not a) (unchanged c Done) (cond b (refused c Busy) (cond d (unchanged c Done) (answered (record c { mark = Some c.out.next_ordinal }) Done)))).slot
 stop_split c false b d e m s = s
 stop_split c true true d e m s = s
 stop_split c true false true e m s = s
 stop_split c true false false e m s =
     settle_sound (record c { mark = Some c.out.next_ordinal }) (marked_firm c c.out.next_ordinal (omega arith) m (and_left c.out.streams c.cap.streams e) s.firm)
 
-start_split : (c : Context) (a b d : Bool) → long_enough c.cap (sizeimage c Cap) ≡ d → IsSound c → IsSoundSlot (cond (not a) (unchanged c Done) (cond b (refused c Busy) (cond (not d) (refused c Inval) (answered (record c { phase = run }) Done)))).slot
+start_split : (c : Context) (a b d : Bool) → long_enough c.cap (sizeimage c Cap) ≡ d → IsOrdered c → IsOrderedSlot (cond (not a) (unchanged c Done) (cond b (refused c Busy) (cond (not d) (refused c Inval) (answered (record c { phase = run }) Done)))).slot
 start_split c false b d e s = s
 start_split c true true d e s = s
 start_split c true false false e s = s
 start_split c true false true e s =
     settle_sound (record c { phase = run }) (running_firm c (and_left (list_all (λ b. nat_le (sizeimage c Cap) b.size) c.cap.ready) _ e) s.firm)
 
-command_split : (c : Context) (cmd : ℕ) (a b : Bool) → IsSound c → IsSoundSlot (cond a (start_answer c) (cond b (stop_answer c) (refused c Inval))).slot
+command_split : (c : Context) (cmd : ℕ) (a b : Bool) → IsOrdered c → IsOrderedSlot (cond a (start_answer c) (cond b (stop_answer c) (refused c Inval))).slot
 command_split c cmd true b s =
     start_split c (both_stream c) (start_is_early c.phase c.mark) (long_enough c.cap (sizeimage c Cap)) refl s
 command_split c cmd false true s =
     stop_split c (both_stream c) (is_some c.mark) (is_stopped_by_drain c.phase) refl refl s
 command_split c cmd false false s = s
 
-kind_split : (c : Context) (cmd : ℕ) (b : Bool) → IsSound c → IsSoundSlot (cond b (command_answer c cmd) (refused c NoTty)).slot
+kind_split : (c : Context) (cmd : ℕ) (b : Bool) → IsOrdered c → IsOrderedSlot (cond b (command_answer c cmd) (refused c NoTty)).slot
 kind_split c cmd true s = command_split c cmd (cmd == 0) (cmd == 1) s
 kind_split c cmd false s = s
 
 -- Controls and events
 
-value_slot : (c : Context) (o : Option ℕ) → IsSound c → IsSoundSlot (value_answer c o).slot
+value_slot : (c : Context) (o : Option ℕ) → IsOrdered c → IsOrderedSlot (value_answer c o).slot
 value_slot c None s = s
 value_slot c (Some v) s = s
 
-control_slot : (c : Context) (o : Option RunRates) → IsSound c → IsSoundSlot (control_answer c o).slot
+control_slot : (c : Context) (o : Option RunRates) → IsOrdered c → IsOrderedSlot (control_answer c o).slot
 control_slot c None s = s
 control_slot c (Some rates) s = settle_sound (record c { rates = rates }) (rates_firm c rates s.firm)
 
-event_slot : (c : Context) (o : Option Errno) (events : EventState) (reply : Reply) → IsSound c → IsSoundSlot (unless c o (answered (record c { events = events }) reply)).slot
+event_slot : (c : Context) (o : Option Errno) (events : EventState) (reply : Reply) → IsOrdered c → IsOrderedSlot (unless c o (answered (record c { events = events }) reply)).slot
 event_slot c o events reply s =
     unless_sound c o (answered (record c { events = events }) reply) s (λ p. settle_sound (record c { events = events }) (events_firm c events s.firm))
 
-taken_event_slot : (c : Context) (o : Option Errno) (block : Bool) (events : EventState) (reply : Reply) → IsSound c → IsSoundSlot (unless_or_block c o block (answered (record c { events = events }) reply)).slot
+taken_event_slot : (c : Context) (o : Option Errno) (block : Bool) (events : EventState) (reply : Reply) → IsOrdered c → IsOrderedSlot (unless_or_block c o block (answered (record c { events = events }) reply)).slot
 taken_event_slot c o block events reply s =
     or_block_sound c o block (answered (record c { events = events }) reply) s (λ p. settle_sound (record c { events = events }) (events_firm c events s.firm))
 
 -- The whole table
 
-context_sound : (c : Context) (request : Call) (bytes : List ℕ) (found : Bool) → IsSound c → IsSoundSlot (context_answer c request bytes found).slot
+context_sound : (c : Context) (request : Call) (bytes : List ℕ) (found : Bool) → IsOrdered c → IsOrderedSlot (context_answer c request bytes found).slot
 unfolding context_answer
 context_sound c (Open kind) bytes found s = s
 context_sound c Close bytes found s =
@@ -530,7 +530,7 @@ codec_fresh Copy = tt
 codec_fresh Enc = tt
 codec_fresh Dec = tt
 
-fresh_sound : (kind : Kind) → IsSound (fresh_context kind)
+fresh_sound : (kind : Kind) → IsOrdered (fresh_context kind)
 fresh_sound kind =
     record {
       firm = record {
@@ -550,13 +550,13 @@ fresh_sound kind =
       settled = record { noted = refl; given = refl };
     }
 
-closed_sound : (request : Call) (found : Bool) → IsSoundSlot (closed_answer request found).slot
+closed_sound : (request : Call) (found : Bool) → IsOrderedSlot (closed_answer request found).slot
 unfolding closed_answer
 closed_sound (Open kind) true = fresh_sound kind
 closed_sound (Open kind) false = tt
 closed_sound request found = tt
 
-pub answer_sound : (s : Slot) (request : Call) (bytes : List ℕ) (found : Bool) → IsSoundSlot s → IsSoundSlot (answer s request bytes found).slot
+pub answer_sound : (s : Slot) (request : Call) (bytes : List ℕ) (found : Bool) → IsOrderedSlot s → IsOrderedSlot (answer s request bytes found).slot
 unfolding answer
 answer_sound None request bytes found s = closed_sound request found
 answer_sound (Some c) request bytes found s = context_sound c request bytes found s

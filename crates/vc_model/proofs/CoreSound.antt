@@ -1,21 +1,20 @@
 -- What a core keeps of a sound context is sound.
-use Rattle.std.proofs.Common.{ℕ, ◌≡◌, ◌≤◌, ◌<◌, ◌+◌, eqb, nat_le, ltb, Bool, true, false, cond, ◌&&◌, is_none, Option, Some, None, List, [], ◌∷◌, ◌++◌, map, length, get_or, refl, sym, ap, ◌∙◌, subst, arith}
+use Rattle.std.proofs.Common.{ℕ, ◌≡◌, ◌≤◌, ◌<◌, ◌+◌, eqb, nat_le, ltb, Bool, true, false, cond, ◌&&◌, Option, Some, None, List, [], ◌∷◌, ◌++◌, map, refl, sym, ap, ◌∙◌, subst, arith}
 use Rattle.std.specs.List.{list_all}
 use Rattle.std.proofs.lemmas.List.{length-map}
-use Rattle.vc_base.specs.Buffers.{Buffer, QueueState, buffers, buffer_count, without_bytes, without_job_bytes}
+use Rattle.vc_base.specs.Buffers.{Buffer, QueueState, buffers, most_buffers, without_bytes, without_job_bytes}
 use Rattle.vc_base.specs.declared.Side.TheVariants.{Cap}
-use Rattle.vc_base.specs.Device.{DeviceEvent}
-use Rattle.vc_model.specs.Coder.{Coder}
-use Rattle.vc_model.specs.Context.{Context, Slot, Running, is_run, is_drained, sizeimage}
-use Rattle.vc_model.specs.Devices.{DeviceState, new_device, slot_of, device_after, projection}
-use Rattle.vc_model.specs.Sound.{count_index, OnceEach, CountsUp, IsSoundQueue, HasItsBuffers, dest_count, AreLong, IsSound, IsSoundSlot, drain_not_noted}
-use Rattle.vc_model.specs.Standing.{CoreState, some_job, without_data, without_data_of, without_job, core_slot, core_of, Stands}
+use Rattle.vc_model.specs.Context.{Context, Slot, Running, is_run, sizeimage}
+use Rattle.vc_model.specs.Devices.{new_device, slot_of, device_after, projection}
+use Rattle.vc_model.specs.Sound.{count_index, CountsUp, IsSoundQueue, HasItsBuffers, AreLong, AreShort, IsSound, IsSoundSlot}
+use Rattle.vc_model.specs.Standing.{some_job, without_data, without_data_of, core_slot}
 use Rattle.vc_model.specs.CoreSound.{HasJobs, IsSoundInCore, IsSoundCoreSlot, CoresAreSound}
 use Rattle.vc_model.proofs.Queues.{count_parts}
 use Rattle.vc_model.proofs.Isolating.{isolated}
 use Rattle.vc_model.proofs.Hiding.{same_length}
 use Rattle.vc_model.proofs.Standing.{core_slot_at}
-use Rattle.vc_model.proofs.Ending.{always_sound, at_most_one}
+use Rattle.vc_model.proofs.Ending.{at_most_one}
+use Rattle.vc_model.proofs.Fitting.{always_sound}
 
 count_without : (bs : List Buffer) (i : ℕ) → count_index (map without_bytes bs) i ≡ count_index bs i
 count_without [] i = refl
@@ -31,6 +30,13 @@ long_without least bs h = all_without bs ∙ h
     all_without : (l : List Buffer) → list_all (λ b. nat_le least b.size) (map without_bytes l) ≡ list_all (λ b. nat_le least b.size) l
     all_without [] = refl
     all_without (b ∷ l) = ap (λ t. nat_le least b.size && t) (all_without l)
+
+short_without : (bs : List Buffer) → AreShort bs → AreShort (map without_bytes bs)
+short_without bs h = all_without bs ∙ h
+  where
+    all_without : (l : List Buffer) → list_all (λ b. nat_le b.used b.size) (map without_bytes l) ≡ list_all (λ b. nat_le b.used b.size) l
+    all_without [] = refl
+    all_without (b ∷ l) = ap (λ t. nat_le b.used b.size && t) (all_without l)
 
 queue_without : (q : QueueState) → IsSoundQueue q → IsSoundQueue (without_job_bytes q)
 queue_without q s =
@@ -63,6 +69,7 @@ idle_in_core c e s =
       ends = s.firm.ends;
       long = s.firm.long;
       settled = s.settled;
+      fit = s.fit;
     }
 
 busy_in_core : (c : Context) (r : Running) → c.running ≡ Some r → IsSound c → IsSoundInCore (without_data c)
@@ -82,6 +89,7 @@ busy_in_core c r e s =
       ends = s.firm.ends;
       long = record { ready = s.firm.long.ready; job = λ t p. long_without (sizeimage c Cap) c.cap.job (s.firm.long.job t p) };
       settled = record { noted = busy_noted (is_run c.phase) c.cap.streams; given = s.settled.given };
+      fit = record { few_out = subst (λ n. n ≤ most_buffers) (sym (same_length c.out)) s.fit.few_out; few_cap = subst (λ n. n ≤ most_buffers) (sym (same_length c.cap)) s.fit.few_cap; short_ready = s.fit.short_ready; short_job = short_without c.out.job s.fit.short_job; short_done = s.fit.short_done; formats = s.fit.formats; geometry = s.fit.geometry; change = s.fit.change };
     }
   where
     busy_noted : (a b : Bool) → (a && (b && false)) ≡ false

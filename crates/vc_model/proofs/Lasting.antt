@@ -1,27 +1,26 @@
 -- No call changes which job runs.
-use Rattle.std.proofs.Common.{ℕ, ◌≡◌, ◌==◌, nat_lt, Bool, true, false, not, cond, ◌&&◌, is_none, is_some, Option, Some, None, List, [], ◌∷◌, refl, sym, ap, ◌∙◌, subst}
-use Rattle.vc_base.specs.declared.Stamp.{Stamp}
+use Rattle.std.proofs.Common.{ℕ, ◌≡◌, ◌==◌, Bool, true, false, not, cond, ◌&&◌, is_none, is_some, Option, Some, None, List, [], ◌∷◌, refl, ◌∙◌}
+use Rattle.vc_model.proofs.Answering.{none_is}
 use Rattle.vc_base.specs.declared.Side.{Side}
 use Rattle.vc_base.specs.declared.Side.TheVariants.{Out, Cap}
 use Rattle.vc_base.specs.declared.Kind.{Kind}
 use Rattle.vc_base.specs.declared.Kind.TheVariants.{Copy, Enc, Dec}
 use Rattle.vc_base.specs.declared.Fourcc.{Fourcc}
-use Rattle.vc_base.specs.declared.Format.{Format}
 use Rattle.vc_base.specs.declared.Errno.{Errno}
 use Rattle.vc_base.specs.declared.Errno.TheVariants.{NoEnt, Again, NoMem, Busy, Inval, NoTty, Pipe}
 use Rattle.vc_base.specs.declared.Call.{Call}
 use Rattle.vc_base.specs.declared.Call.TheVariants.{Open, Close, EnumFmt, GetFmt, TryFmt, SetFmt, ReqBufs, CreateBufs, QueryBuf, QBuf, DqBuf, StreamOn, StreamOff, Subscribe, Unsubscribe, DqEvent, DecCmd, EncCmd, GetCtrl, SetCtrl, Poll}
 use Rattle.vc_base.specs.declared.Reply.{Reply}
-use Rattle.vc_base.specs.declared.Reply.TheVariants.{Done, Created, Refused, Blocked}
-use Rattle.vc_base.specs.Buffers.{Buffer, QueueState, buffer_count, is_empty, with_index, held_refusal, refuse_if, create_refusal, create_after, created, qbuf_after, dqbuf_after, dqbuf_refusal, reqbufs_after, streamon_refusal, streamon_after, streamoff_after, long_enough}
+use Rattle.vc_base.specs.declared.Reply.TheVariants.{Done, Blocked}
+use Rattle.vc_base.specs.Buffers.{Buffer, QueueState, is_empty, with_index, held_refusal, refuse_if, create_refusal, create_after, qbuf_after, dqbuf_after, dqbuf_refusal, reqbufs_after, streamon_refusal, streamon_after, streamoff_after, long_enough}
 use Rattle.vc_model.specs.Formats.{formats_for}
 use Rattle.vc_defs.specs.Encoder.{RunRates}
-use Rattle.vc_model.specs.Context.{Context, Slot, Running, Cause, drain, change, PhaseState, run, owe, last, stopped, queue_of, with_queue, is_dec, is_enc, is_run, is_drained, sizeimage, raise_end, settle, settle_drain, settle_last, give_last}
-use Rattle.vc_model.specs.Answer.{Answer, unchanged, refused, answered, unless, if_found, unless_running, unless_or_block, desc_answer, set_answer, set_refusal, after_new_format, reqbufs_answer, after_new_buffers, create_answer, query_answer, qbuf_answer, is_part_of_picture, taken_answer, after_taking, stop_at_last, is_ended, dqbuf_answer, streamon_answer, streamoff_answer, streamoff_effect, without_drain_stop, after_output_off, mark_after_restart, after_capture_off, both_stream, is_stopped_by_drain, stop_answer, start_is_early, start_answer, command_answer, value_answer, control_answer, context_answer, answer}
+use Rattle.vc_model.specs.Context.{Context, Slot, Running, Cause, drain, change, PhaseState, run, owe, last, stopped, queue_of, with_queue, is_dec, is_enc, is_run, is_drained, sizeimage, settle, settle_drain, settle_last, give_last}
+use Rattle.vc_model.specs.Answer.{Answer, unchanged, refused, unless, if_found, unless_or_block, desc_answer, set_refusal, after_new_format, after_new_buffers, query_answer, is_part_of_picture, taken_answer, after_taking, stop_at_last, is_ended, streamoff_effect, without_drain_stop, after_output_off, mark_after_restart, after_capture_off, both_stream, is_stopped_by_drain, stop_answer, start_is_early, start_answer, command_answer, value_answer, control_answer, context_answer, answer}
 
 -- the slot is closed, or its context has this job
 unfoldable pub Lasts : Option Running → Slot → Type 0
-Lasts o None = Unit {0}
+Lasts o None = o ≡ None
 Lasts o (Some c) = c.running ≡ o
 
 -- Settling
@@ -169,15 +168,15 @@ command_lasts : (c : Context) (cmd : ℕ) → Lasts c.running (command_answer c 
 command_lasts c cmd =
     either_lasts c (cmd == 0) (start_answer c) (cond (cmd == 1) (stop_answer c) (refused c Inval)) (either_lasts c (not (both_stream c)) _ _ (same_lasts c) (either_lasts c (start_is_early c.phase c.mark) _ _ (same_lasts c) (either_lasts c (not (long_enough c.cap (sizeimage c Cap))) _ _ (same_lasts c) (settled_lasts c (record c { phase = run }) refl)))) (either_lasts c (cmd == 1) (stop_answer c) (refused c Inval) (either_lasts c (not (both_stream c)) _ _ (same_lasts c) (either_lasts c (is_some c.mark) _ _ (same_lasts c) (either_lasts c (is_stopped_by_drain c.phase) _ _ (same_lasts c) (settled_lasts c (record c { mark = Some c.out.next_ordinal }) refl)))) (same_lasts c))
 
-close_lasts : (c : Context) (b : Bool) → Lasts c.running (cond b (record { slot = None; reply = Done; bytes = [] }) (unchanged c Blocked)).slot
+close_lasts : (c : Context) (b : Bool) → is_none c.running ≡ b → Lasts c.running (cond b (record { slot = None; reply = Done; bytes = [] }) (unchanged c Blocked)).slot
 unfolding Lasts
-close_lasts c true = tt
-close_lasts c false = refl
+close_lasts c true e = none_is c.running e
+close_lasts c false e = refl
 
 row_lasts : (c : Context) (request : Call) (bytes : List ℕ) (found : Bool) → Lasts c.running (context_answer c request bytes found).slot
 unfolding context_answer
 row_lasts c (Open kind) bytes found = same_lasts c
-row_lasts c Close bytes found = close_lasts c (is_none c.running)
+row_lasts c Close bytes found = close_lasts c (is_none c.running) refl
 row_lasts c (EnumFmt side index) bytes found = desc_lasts c _
 row_lasts c (GetFmt side) bytes found = same_lasts c
 row_lasts c (TryFmt side want) bytes found = same_lasts c

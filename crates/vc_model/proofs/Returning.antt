@@ -1,6 +1,9 @@
 -- A buffer comes back at most once before it is queued again.
 use Rattle.std.proofs.Common.{ℕ, ◌≡◌, ◌≤◌, ◌+◌, ◌==◌, eqb, nat_lt, Bool, true, false, not, cond, ◌&&◌, is_none, is_some, Option, Some, None, List, [], ◌∷◌, length, refl, sym, ap, ◌∙◌, arith}
 use Rattle.std.proofs.lemmas.Bool.{ltb-true, eqb-false, ne_eqb}
+use Rattle.std.specs.Prelude.{min}
+use Rattle.vc_base.specs.Buffers.{most_buffers, reqbufs_refusal}
+use Rattle.vc_base.specs.declared.Reply.TheVariants.{Count}
 use Rattle.vc_base.specs.declared.Stamp.{Stamp}
 use Rattle.vc_base.specs.declared.Side.{Side}
 use Rattle.vc_base.specs.declared.Side.TheVariants.{Out, Cap}
@@ -24,11 +27,11 @@ use Rattle.vc_model.specs.Context.{Context, Slot, Running, RunSort, copy, encode
 use Rattle.vc_model.specs.Answer.{Answer, unchanged, refused, answered, unless, if_found, unless_or_block, desc_answer, set_answer, set_refusal, after_new_format, reqbufs_answer, after_new_buffers, create_answer, query_answer, qbuf_answer, is_part_of_picture, taken_answer, after_taking, stop_at_last, is_ended, streamon_answer, streamoff_effect, without_drain_stop, after_output_off, mark_after_restart, after_capture_off, both_stream, is_stopped_by_drain, stop_answer, start_is_early, start_answer, command_answer, value_answer, control_answer, context_answer, closed_answer, answer}
 use Rattle.vc_model.specs.Runs.{is_claimable, sort_of, cap_after_claim, claim_front, after_claim, JobData, job_data, RunResult, copied, encoded, decoded, run_result, source_done, source_back, dest_done, dest_back, type_flag, source_moved, decoded_effect, run_effect, fault_effect, after_finish}
 use Rattle.vc_model.specs.Solo.{SoloEvent, Called, Claims, Finishes, solo_step, solo_slot, claim_step, solo_finish, finish_step}
-use Rattle.vc_model.specs.Sound.{count_index, IsSoundButUnsettled, IsSound, IsSoundSlot}
-use Rattle.vc_model.specs.Places.{same_side, not_held, not_held_in, call_returns, comes_back, call_queues, is_queued, returns_in, IsNotQueued, BackOnce}
+use Rattle.vc_model.specs.Sound.{count_index, IsSoundButUnsettled, IsOrdered, IsOrderedSlot}
+use Rattle.vc_model.specs.Places.{ready_or_done, BuffersAreDropped, same_side, not_held, not_held_in, call_returns, comes_back, call_queues, is_queued, returns_in, IsNotQueued, BackOnce}
 use Rattle.vc_model.proofs.Queues.{count-append, count_parts, find_index, once_at_most}
 use Rattle.vc_model.proofs.Firm.{without_job}
-use Rattle.vc_model.proofs.Ending.{step_sound, always_sound}
+use Rattle.vc_model.proofs.Ending.{step_sound, always_ordered}
 
 -- One queue
 
@@ -350,7 +353,7 @@ off_balance c Out Out i j k =
     let e = ap (λ q. not_held q i) (output_off_queues c.kind (record c { out = streamoff_after c.out; mark = None; phase = without_drain_stop c.phase })).0 in
     let g = gone_away c.out i j in
     let p = (settle_away x).out i in
-    let b = back_at_most (not_held c.out i) (nat_lt 0 (not_held c.out i)) refl in
+    let b = back_at_most (ready_or_done c.out i) (nat_lt 0 (ready_or_done c.out i)) refl in
     omega arith
 off_balance c Out Cap i j k =
     let x = streamoff_effect c Out in
@@ -367,7 +370,7 @@ off_balance c Cap Cap i j k =
     let e = ap (λ q. not_held q i) (capture_effect c c.cap.streams).1 in
     let g = gone_away c.cap i k in
     let p = (settle_away x).cap i in
-    let b = back_at_most (not_held c.cap i) (nat_lt 0 (not_held c.cap i)) refl in
+    let b = back_at_most (ready_or_done c.cap i) (nat_lt 0 (ready_or_done c.cap i)) refl in
     omega arith
 
 off_split : (c : Context) (stopped_side side : Side) (i : ℕ) (b : Bool) → is_none c.running ≡ b → IsSoundButUnsettled c → Balance side i (Some c) (StreamOff stopped_side) (cond b (answered (streamoff_effect c stopped_side) Done) (unchanged c Blocked))
@@ -379,7 +382,7 @@ off_split c stopped_side side i false e f = omega arith
 plain : (c : Context) (side : Side) (i : ℕ) (s : Slot) → SlotLess c s → 0 + not_held_in side i s ≤ not_held_in side i (Some c)
 plain c side i s n = let h = of_slot c s n side i in omega arith
 
-context_balance : (c : Context) (side : Side) (i : ℕ) (request : Call) (bytes : List ℕ) (found : Bool) → IsSound c → call_queues side i request (context_answer c request bytes found).reply ≡ false → Balance side i (Some c) request (context_answer c request bytes found)
+context_balance : (c : Context) (side : Side) (i : ℕ) (request : Call) (bytes : List ℕ) (found : Bool) → IsOrdered c → call_queues side i request (context_answer c request bytes found).reply ≡ false → Balance side i (Some c) request (context_answer c request bytes found)
 unfolding context_answer SlotLess
 context_balance c side i (Open kind) bytes found s n = plain c side i (Some c) (here c)
 context_balance c side i Close bytes found s n =
@@ -418,7 +421,7 @@ closed_balance side i (Open kind) true = let e = fresh_away kind side i in omega
 closed_balance side i (Open kind) false = omega arith
 closed_balance side i request found = omega arith
 
-answer_balance : (s : Slot) (side : Side) (i : ℕ) (request : Call) (bytes : List ℕ) (found : Bool) → IsSoundSlot s → call_queues side i request (answer s request bytes found).reply ≡ false → Balance side i s request (answer s request bytes found)
+answer_balance : (s : Slot) (side : Side) (i : ℕ) (request : Call) (bytes : List ℕ) (found : Bool) → IsOrderedSlot s → call_queues side i request (answer s request bytes found).reply ≡ false → Balance side i s request (answer s request bytes found)
 unfolding answer
 answer_balance None side i request bytes found h n = closed_balance side i request found
 answer_balance (Some c) side i request bytes found h n = context_balance c side i request bytes found h n
@@ -536,20 +539,20 @@ finish_step_away coder (Some c) fault side i = finish_job_away coder c c.running
 
 -- Steps and runs
 
-step_balance : (coder : Coder) (s : Slot) (e : SoloEvent) (side : Side) (i : ℕ) → IsSoundSlot s → is_queued side i e (solo_step coder s e).told ≡ false → cond (comes_back side i s e (solo_step coder s e).told) 1 0 + not_held_in side i (solo_step coder s e).slot ≤ not_held_in side i s
+step_balance : (coder : Coder) (s : Slot) (e : SoloEvent) (side : Side) (i : ℕ) → IsOrderedSlot s → is_queued side i e (solo_step coder s e).told ≡ false → cond (comes_back side i s e (solo_step coder s e).told) 1 0 + not_held_in side i (solo_step coder s e).slot ≤ not_held_in side i s
 unfolding solo_step
 step_balance coder s (Called request bytes found) side i h n = answer_balance s side i request bytes found h n
 step_balance coder s Claims side i h n = let a = claim_step_away s (is_claimable s) side i in omega arith
 step_balance coder s (Finishes fault) side i h n = let a = finish_step_away coder s fault side i in omega arith
 
-run_balance : (coder : Coder) (side : Side) (i : ℕ) (s : Slot) (es : List SoloEvent) → IsSoundSlot s → IsNotQueued coder side i s es → returns_in coder side i s es ≤ not_held_in side i s
+run_balance : (coder : Coder) (side : Side) (i : ℕ) (s : Slot) (es : List SoloEvent) → IsOrderedSlot s → IsNotQueued coder side i s es → returns_in coder side i s es ≤ not_held_in side i s
 run_balance coder side i s [] h n = omega arith
 run_balance coder side i s (e ∷ es) h n =
     let step = step_balance coder s e side i h n.0 in
     let rest = run_balance coder side i (solo_step coder s e).slot es (step_sound coder s e h) n.1 in
     omega arith
 
-away_at_most : (s : Slot) (side : Side) (i : ℕ) → IsSoundSlot s → not_held_in side i s ≤ 1
+away_at_most : (s : Slot) (side : Side) (i : ℕ) → IsOrderedSlot s → not_held_in side i s ≤ 1
 away_at_most None side i h = omega arith
 away_at_most (Some c) Out i h =
     let a = once_at_most c.out h.firm.out.once i in
@@ -562,5 +565,52 @@ away_at_most (Some c) Cap i h =
 
 pub back_once : BackOnce
 back_once coder events more side i n =
-    let h = always_sound coder events in
+    let h = always_ordered coder events in
     (run_balance coder side i (solo_slot coder None events) more h n, away_at_most (solo_slot coder None events) side i h)
+
+-- ReqBufs and Close
+
+dropped_new : (kind : Kind) (side : Side) (x : Context) (i : ℕ) → not_held (queue_of x side) i ≡ 0 → not_held (queue_of (after_new_buffers kind side x) side) i ≡ 0
+dropped_new Copy Out x i e = e
+dropped_new Copy Cap x i e = e
+dropped_new Enc Out x i e = e
+dropped_new Enc Cap x i e = e
+dropped_new Dec Out x i e = e
+dropped_new Dec Cap x i e = e
+
+settled_none : (x : Context) (side : Side) (i : ℕ) → not_held (queue_of x side) i ≡ 0 → not_held (queue_of (settle x) side) i ≡ 0
+settled_none x Out i e = let h = (settle_away x).out i in omega arith
+settled_none x Cap i e = let h = (settle_away x).cap i in omega arith
+
+dropped_queue : (c : Context) (side : Side) (count size i : ℕ) → not_held (queue_of (with_queue c side (reqbufs_after (queue_of c side) count size)) side) i ≡ 0
+dropped_queue c Out count size i = refl
+dropped_queue c Cap count size i = refl
+
+dropped_split : (c : Context) (side : Side) (count counted i : ℕ) (o : Option Errno) (found : Bool) → let x = after_new_buffers c.kind side (with_queue c side (reqbufs_after (queue_of c side) count (sizeimage c side))) in let a = unless c o (if_found c found (answered x (Count (min count most_buffers)))) in a.reply ≡ Count counted → not_held_in side i a.slot ≡ 0
+dropped_split c side count counted i (Some errno) found e = absurd (cc)
+dropped_split c side count counted i None true e =
+    let x = after_new_buffers c.kind side (with_queue c side (reqbufs_after (queue_of c side) count (sizeimage c side))) in
+    settled_none x side i (dropped_new c.kind side (with_queue c side (reqbufs_after (queue_of c side) count (sizeimage c side))) i (dropped_queue c side count (sizeimage c side) i))
+dropped_split c side count counted i None false e = absurd (cc)
+
+dropped_slot : (s : Slot) (side : Side) (count counted i : ℕ) (bytes : List ℕ) (found : Bool) → (answer s (ReqBufs side count) bytes found).reply ≡ Count counted → not_held_in side i (answer s (ReqBufs side count) bytes found).slot ≡ 0
+unfolding answer context_answer closed_answer
+dropped_slot None side count counted i bytes found e = absurd (cc)
+dropped_slot (Some c) side count counted i bytes found e =
+    dropped_split c side count counted i (reqbufs_refusal (queue_of c side)) found e
+
+closed_split : (c : Context) (b : Bool) → let a = cond b (record { slot = None; reply = Done; bytes = [] }) (unchanged c Blocked) in a.reply ≡ Done → a.slot ≡ None
+closed_split c true e = refl
+closed_split c false e = absurd (cc)
+
+closed_slot : (s : Slot) (bytes : List ℕ) (found : Bool) → (answer s Close bytes found).reply ≡ Done → (answer s Close bytes found).slot ≡ None
+unfolding answer context_answer closed_answer
+closed_slot None bytes found e = refl
+closed_slot (Some c) bytes found e = closed_split c (is_none c.running) e
+
+pub buffers_are_dropped : BuffersAreDropped
+buffers_are_dropped coder events =
+    record {
+      reqbufs = λ side count counted i bytes found e. dropped_slot (solo_slot coder None events) side count counted i bytes found e;
+      close = λ bytes found e. closed_slot (solo_slot coder None events) bytes found e;
+    }

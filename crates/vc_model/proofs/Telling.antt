@@ -27,10 +27,10 @@ use Rattle.vc_model.specs.Solo.{SoloEvent, Called, Claims, Finishes, solo_step, 
 use Rattle.vc_base.specs.Events.{raise_after, eos_event}
 use Rattle.vc_model.specs.Context.{is_run}
 use Rattle.vc_model.specs.Drains.{is_last_by_drain, gives_last, EndsAreTold}
-use Rattle.vc_model.specs.Sound.{HasItsBuffers, drain_not_noted, IsSettled, IsSound, IsSoundSlot}
+use Rattle.vc_model.specs.Sound.{HasItsBuffers, drain_not_noted, IsSettled, IsOrdered, IsOrderedSlot}
 use Rattle.vc_model.proofs.Tests.{and_left, and_right, and_false, not_true}
 use Rattle.vc_model.proofs.Settled.{settles_once}
-use Rattle.vc_model.proofs.Ending.{always_sound}
+use Rattle.vc_model.proofs.Ending.{always_ordered}
 
 abbrev Told : Context → Context → Type 0
 Told c x = gives_last c x ≡ true → x.events ≡ raise_after c.events eos_event 0
@@ -392,7 +392,7 @@ unfolding SlotTold
 finish_job_told coder c None fault h = same_phase c c refl
 finish_job_told coder c (Some r) fault h = finish_told coder c r fault h.0
 
-step_told : (coder : Coder) (c : Context) (e : SoloEvent) → IsSound c → SlotTold c (solo_step coder (Some c) e).slot
+step_told : (coder : Coder) (c : Context) (e : SoloEvent) → IsOrdered c → SlotTold c (solo_step coder (Some c) e).slot
 unfolding solo_step answer
 step_told coder c (Called request bytes found) s = context_told c request bytes found s.settled
 step_told coder c Claims s = claim_told c (is_claimable (Some c))
@@ -401,4 +401,4 @@ step_told coder c (Finishes fault) s = finish_job_told coder c c.running fault s
 pub ends_are_told : EndsAreTold
 unfolding SlotTold
 ends_are_told coder events e before after at next =
-    subst (SlotTold before) next (step_told coder before e (subst IsSoundSlot at (always_sound coder events)))
+    subst (SlotTold before) next (step_told coder before e (subst IsOrderedSlot at (always_ordered coder events)))

@@ -28,7 +28,7 @@ use Rattle.std.specs.List.{list_all}
 use Rattle.std.proofs.lemmas.Bool.{eq-eqb}
 use Rattle.std.proofs.lemmas.List.Folds.{list_all-append}
 use Rattle.vc_model.specs.Runs.{source_of}
-use Rattle.vc_model.specs.Places.{is_honest_call, is_honest, AreHonest, is_whole, is_whole_reply, hands_whole, HandsWhole}
+use Rattle.vc_model.specs.Places.{is_honest_call, is_honest, AreHonest, is_whole, is_whole_reply, hands_whole, HandsWhole, HaveBytes, SourcesAreWhole}
 use Rattle.vc_model.proofs.Tests.{and_left, and_right, and_both}
 
 -- an OUTPUT buffer that was queued has all its bytes
@@ -698,3 +698,19 @@ pub always_hands : HandsWhole
 unfolding SlotWhole
 always_hands coder events e n =
     step_hands coder (solo_slot coder None events) e (run_whole_slot coder None events n tt)
+
+context_sources : (c : Context) → IsWhole c → HaveBytes c.out.ready × HaveBytes c.out.job
+unfolding IsWhole
+context_sources c w = (w.ready, w.job)
+
+slot_sources : (c : Context) → SlotWhole (Some c) → HaveBytes c.out.ready × HaveBytes c.out.job
+unfolding SlotWhole
+slot_sources c w = context_sources c w
+
+none_whole : SlotWhole None
+unfolding SlotWhole
+none_whole = tt
+
+pub sources_are_whole : SourcesAreWhole
+sources_are_whole coder events c h e =
+    slot_sources c (subst SlotWhole e (run_whole_slot coder None events h none_whole))

@@ -1,12 +1,12 @@
 -- What holds of every context as a core keeps it: all that is sound of the context of the device, but for the data of its
 -- running job.
-use Rattle.std.specs.Prelude.{ℕ, ◌≡◌, ◌≤◌, Bool, true, false, is_some, length, Option, Some, None, List, []}
+use Rattle.std.specs.Prelude.{ℕ, ◌≡◌, ◌≤◌, true, false, is_some, length, Option, Some, None, List, []}
 use Rattle.vc_base.specs.declared.Side.TheVariants.{Out, Cap}
 use Rattle.vc_base.specs.Device.{DeviceEvent}
 use Rattle.vc_model.specs.Coder.{Coder}
 use Rattle.vc_model.specs.Context.{Context, Slot, Running, is_run, is_drained}
 use Rattle.vc_model.specs.Devices.{slot_of}
-use Rattle.vc_model.specs.Sound.{IsSoundQueue, HasCodec, is_last, ends_with_last, LongEnough, IsSettled, is_at_end, MarkIsQueued}
+use Rattle.vc_model.specs.Sound.{IsSoundQueue, HasCodec, is_last, ends_with_last, LongEnough, IsSettled, is_at_end, MarkIsQueued, IsFit}
 use Rattle.vc_model.specs.Standing.{CoreState, Stands}
 
 -- Where no job runs the job lists are empty. A job runs in phase Run alone; it has one OUTPUT buffer, and one CAPTURE buffer
@@ -29,6 +29,7 @@ pub record IsSoundInCore (c : Context) : Type 0 where
   pub ends : is_last c.phase ≡ true → ends_with_last c.cap.done ≡ true
   pub long : LongEnough c
   pub settled : IsSettled c
+  pub fit : IsFit c
 
 abbrev pub IsSoundCoreSlot : Slot → Type 0
 IsSoundCoreSlot None = Unit {0}

@@ -1,12 +1,17 @@
--- What holds of every context after every step.
+-- What holds of every context after every step (docs/DEVICE.md, "One context" and "Calls").
 use Rattle.std.specs.Prelude.{ℕ, ◌≡◌, ◌<◌, ◌≤◌, ◌+◌, Bool, true, false, not, ◌&&◌, ◌==◌, nat_lt, nat_le, if◌then◌else◌, bit_and, is_none, is_some, Option, Some, None, List, [], ◌∷◌, ◌++◌, length}
-use Rattle.std.specs.List.{list_all}
+use Rattle.std.specs.List.{list_all, list_any}
 use Rattle.vc_base.specs.declared.Side.TheVariants.{Out, Cap}
 use Rattle.vc_base.specs.declared.Kind.{Kind}
 use Rattle.vc_base.specs.declared.Kind.TheVariants.{Copy, Enc, Dec}
-use Rattle.vc_base.specs.Buffers.{Buffer, QueueState, is_empty, buffers, buffer_count, last_flag}
+use Rattle.vc_base.specs.declared.Format.{Format}
+use Rattle.vc_base.specs.Buffers.{Buffer, QueueState, is_empty, buffers, buffer_count, most_buffers, last_flag}
+use Rattle.vc_defs.specs.declared.Geometry.{Geometry}
+use Rattle.vc_defs.specs.Raw.{grey, yu12, nv12, yuyv, same_fourcc, layout_of}
+use Rattle.vc_model.specs.Formats.{FormatPair, raw_format}
 use Rattle.vc_model.specs.Coder.{CodecState, no_codec, encoder, decoder}
-use Rattle.vc_model.specs.Context.{Context, Slot, Running, RunSort, copy, encode, decode, probe, PhaseState, run, owe, last, stopped, is_run, is_drain, is_drained, sizeimage}
+use Rattle.vc_model.specs.Context.{Context, Slot, Running, RunSort, copy, encode, decode, probe, PhaseState, run, owe, last, stopped, is_run, is_drain, is_drained, is_dec, sizeimage}
+use Rattle.vc_model.specs.Runs.{sort_of, run_format}
 
 -- how many buffers of the list have the index
 abbrev pub count_index : List Buffer → ℕ → ℕ
@@ -130,9 +135,82 @@ pub record IsSoundButUnsettled (c : Context) : Type 0 where
   pub ends : is_last c.phase ≡ true → ends_with_last c.cap.done ≡ true
   pub long : LongEnough c
 
+-- A context that is sound in its places.
+pub record IsOrdered (c : Context) : Type 0 where
+  pub firm : IsSoundButUnsettled c
+  pub settled : IsSettled c
+
+-- a closed slot is
+abbrev pub IsOrderedSlot : Slot → Type 0
+IsOrderedSlot None = Unit {0}
+IsOrderedSlot (Some c) = IsOrdered c
+
+-- Formats, sizes and runs
+
+-- a raw format ("Image Formats") with its size
+abbrev pub IsRaw : Format → Type 0
+IsRaw format =
+    (format ≡ raw_format format.fourcc format.width format.height) × (list_any (same_fourcc format.fourcc) (grey ∷ yu12 ∷ nv12 ∷ yuyv ∷ []) ≡ true)
+
+-- an encoder's OUTPUT format and a decoder's CAPTURE format are raw
+abbrev pub HasFormats : Kind → FormatPair → Type 0
+HasFormats Copy formats = Unit {0}
+HasFormats Enc formats = IsRaw formats.out
+HasFormats Dec formats = IsRaw formats.cap
+
+-- the format has the sizes and the layout of the geometry
+abbrev pub IsFormatOf : Geometry → Format → Type 0
+IsFormatOf geometry format =
+    (format.width ≡ geometry.width) × (format.height ≡ geometry.height) × (layout_of format.fourcc ≡ geometry.layout)
+
+-- Only a decoder has a geometry, and its CAPTURE format is one of the geometry ("Capture Setup" of the stateful decoder).
+abbrev pub HasGeometry : Kind → FormatPair → Option Geometry → Type 0
+HasGeometry kind formats None = Unit {0}
+HasGeometry Copy formats (Some geometry) = ⊥
+HasGeometry Enc formats (Some geometry) = ⊥
+HasGeometry Dec formats (Some geometry) = IsFormatOf geometry formats.cap
+
+abbrev pub has_dest : RunSort → Bool
+has_dest copy = true
+has_dest encode = true
+has_dest decode = true
+has_dest probe = false
+
+-- The running job took the sort, the geometry and the limit that its context still has, and, but for a probe, the format. Only
+-- the rates may have changed since the claim.
+pub record IsRunOf (kind : Kind) (formats : FormatPair) (geometry : Option Geometry) (r : Running) : Type 0 where
+  pub sort : r.sort ≡ sort_of kind geometry
+  pub same_geometry : r.geometry ≡ geometry
+  pub limit : r.limit ≡ formats.out.size
+  pub format : has_dest r.sort ≡ true → r.format ≡ run_format kind formats
+
+abbrev pub HasRun : Kind → FormatPair → Option Geometry → Option Running → Type 0
+HasRun kind formats geometry None = Unit {0}
+HasRun kind formats geometry (Some r) = IsRunOf kind formats geometry r
+
+-- no buffer of the list has more used bytes than it has room for
+abbrev pub AreShort : List Buffer → Type 0
+AreShort bs = list_all (λ b. nat_le b.used b.size) bs ≡ true
+
+-- What holds of formats and sizes.
+pub record IsFit (c : Context) : Type 0 where
+  pub few_out : buffer_count c.out ≤ most_buffers
+  pub few_cap : buffer_count c.cap ≤ most_buffers
+  -- of OUTPUT buffers that the user does not hold
+  pub short_ready : AreShort c.out.ready
+  pub short_job : AreShort c.out.job
+  pub short_done : AreShort c.out.done
+  pub formats : HasFormats c.kind c.formats
+  pub geometry : HasGeometry c.kind c.formats c.geometry
+  -- only a decoder stops by a change
+  pub change : stops_by_change c.phase ≡ true → is_dec c.kind ≡ true
+
+-- What holds of every open context.
 pub record IsSound (c : Context) : Type 0 where
   pub firm : IsSoundButUnsettled c
   pub settled : IsSettled c
+  pub fit : IsFit c
+  pub run : HasRun c.kind c.formats c.geometry c.running
 
 -- a closed slot is sound
 abbrev pub IsSoundSlot : Slot → Type 0
