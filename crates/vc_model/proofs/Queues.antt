@@ -56,7 +56,7 @@ new_within size first zero i h k = absurd (omega arith)
 new_within size first (suc n) i h k =
     within_split size first n i h k (λ (l : first + 1 ≤ i). new_within size (first + 1) n i l (omega arith)) (eqb first i) refl
 
-length_new : (size first n : ℕ) → length (new_buffers size first n) ≡ n
+pub length_new : (size first n : ℕ) → length (new_buffers size first n) ≡ n
 length_new size first zero = refl
 length_new size first (suc n) = let h = length_new size (first + 1) n in omega arith
 
@@ -80,7 +80,7 @@ length_split : (x : Buffer) (bs : List Buffer) (k : ℕ) → length (without k b
 length_split x bs k h true = omega arith
 length_split x bs k h false = omega arith
 
-length_without : (bs : List Buffer) (k : ℕ) → length (without k bs) + count_index bs k ≡ length bs
+pub length_without : (bs : List Buffer) (k : ℕ) → length (without k bs) + count_index bs k ≡ length bs
 length_without [] k = omega arith
 length_without (x ∷ bs) k = length_split x bs k (length_without bs k) (eqb x.index k)
 

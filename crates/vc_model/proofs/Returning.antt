@@ -1,6 +1,9 @@
 -- A buffer comes back at most once before it is queued again.
 use Rattle.std.proofs.Common.{ℕ, ◌≡◌, ◌≤◌, ◌+◌, ◌==◌, eqb, nat_lt, Bool, true, false, not, cond, ◌&&◌, is_none, is_some, Option, Some, None, List, [], ◌∷◌, length, refl, sym, ap, ◌∙◌, arith}
 use Rattle.std.proofs.lemmas.Bool.{ltb-true, eqb-false, ne_eqb}
+use Rattle.std.specs.Prelude.{min}
+use Rattle.vc_base.specs.Buffers.{most_buffers, reqbufs_refusal}
+use Rattle.vc_base.specs.declared.Reply.TheVariants.{Count}
 use Rattle.vc_base.specs.declared.Stamp.{Stamp}
 use Rattle.vc_base.specs.declared.Side.{Side}
 use Rattle.vc_base.specs.declared.Side.TheVariants.{Out, Cap}
@@ -18,40 +21,40 @@ use Rattle.vc_base.specs.Buffers.{Buffer, QueueState, buffer_count, is_empty, re
 use Rattle.vc_base.specs.Events.{EventState, raise_after, source_change_event}
 use Rattle.vc_model.specs.Formats.{FormatPair, formats_found}
 use Rattle.vc_model.specs.Coder.{Coder, encoder, decoder, reset}
-use Rattle.vc_defs.specs.Decoder.{DecodedResult, picture, damaged, changed, spent}
+use Rattle.vc_defs.specs.Decoder.{DecodedResult, picture, damaged, changed, spent, step_outcome}
 use Rattle.vc_defs.specs.Encoder.{RunRates}
 use Rattle.vc_model.specs.Context.{Context, Slot, Running, RunSort, copy, encode, decode, probe, Cause, drain, change, PhaseState, run, owe, last, stopped, fresh_context, queue_of, with_queue, is_dec, is_enc, is_drained, sizeimage, raise_end, settle, settle_drain, settle_last, give_last}
 use Rattle.vc_model.specs.Answer.{Answer, unchanged, refused, answered, unless, if_found, unless_or_block, desc_answer, set_answer, set_refusal, after_new_format, reqbufs_answer, after_new_buffers, create_answer, query_answer, qbuf_answer, is_part_of_picture, taken_answer, after_taking, stop_at_last, is_ended, streamon_answer, streamoff_effect, without_drain_stop, after_output_off, mark_after_restart, after_capture_off, both_stream, is_stopped_by_drain, stop_answer, start_is_early, start_answer, command_answer, value_answer, control_answer, context_answer, closed_answer, answer}
 use Rattle.vc_model.specs.Runs.{is_claimable, sort_of, cap_after_claim, claim_front, after_claim, JobData, job_data, RunResult, copied, encoded, decoded, run_result, source_done, source_back, dest_done, dest_back, type_flag, source_moved, decoded_effect, run_effect, fault_effect, after_finish}
-use Rattle.vc_model.specs.Solo.{SoloEvent, Called, Claims, Finishes, solo_step, solo_slot, claim_step, finish_job, finish_step}
-use Rattle.vc_model.specs.Sound.{count_index, IsFirm, IsSound, IsSoundSlot}
-use Rattle.vc_model.specs.Places.{same_side, away, away_in, call_returns, comes_back, call_queues, is_queued, returns_in, IsNotQueued, BackOnce}
+use Rattle.vc_model.specs.Solo.{SoloEvent, Called, Claims, Finishes, solo_step, solo_slot, claim_step, solo_finish, finish_step}
+use Rattle.vc_model.specs.Sound.{count_index, IsSoundButUnsettled, IsOrdered, IsOrderedSlot}
+use Rattle.vc_model.specs.Places.{ready_or_done, DropsBuffers, BuffersAreDropped, same_side, not_held, not_held_in, call_returns, comes_back, call_queues, is_queued, returns_in, IsNotQueued, BackOnce}
 use Rattle.vc_model.proofs.Queues.{count-append, count_parts, find_index, once_at_most}
 use Rattle.vc_model.proofs.Firm.{without_job}
-use Rattle.vc_model.proofs.Ending.{step_sound, always_sound}
+use Rattle.vc_model.proofs.Ending.{step_sound, always_ordered}
 
 -- One queue
 
-lend_away : (q : QueueState) (ready : List Buffer) (i : ℕ) → q.ready ≡ ready → away (lend_front q ready) i ≤ away q i
+lend_away : (q : QueueState) (ready : List Buffer) (i : ℕ) → q.ready ≡ ready → not_held (lend_front q ready) i ≤ not_held q i
 lend_away q [] i e = omega arith
 lend_away q (b ∷ rest) i e = let c = ap (λ l. count_index l i) e in omega arith
 
-retire_away : (q : QueueState) (job : List Buffer) (used : ℕ) (bytes : List ℕ) (flags : ℕ) (stamp : Stamp) (i : ℕ) → q.job ≡ job → away (retire_from q job used bytes flags stamp) i ≤ away q i
+retire_away : (q : QueueState) (job : List Buffer) (used : ℕ) (bytes : List ℕ) (flags : ℕ) (stamp : Stamp) (i : ℕ) → q.job ≡ job → not_held (retire_from q job used bytes flags stamp) i ≤ not_held q i
 retire_away q [] used bytes flags stamp i e = omega arith
 retire_away q (b ∷ bs) used bytes flags stamp i e =
     let c = ap (λ l. count_index l i) e in
     let p = count-append q.done (record b { used = used; bytes = known_bytes q.side flags bytes; flags = flags; stamp = stamp; seq = q.next_seq } ∷ []) i in
     omega arith
 
-give_back_away : (q : QueueState) (job : List Buffer) (cursor : ℕ) (bytes : List ℕ) (i : ℕ) → q.job ≡ job → away (give_back_from q job cursor bytes) i ≤ away q i
+give_back_away : (q : QueueState) (job : List Buffer) (cursor : ℕ) (bytes : List ℕ) (i : ℕ) → q.job ≡ job → not_held (give_back_from q job cursor bytes) i ≤ not_held q i
 give_back_away q [] cursor bytes i e = omega arith
 give_back_away q (b ∷ bs) cursor bytes i e = let c = ap (λ l. count_index l i) e in omega arith
 
--- Two contexts: in the later one no more buffers are away
+-- Two contexts: in the later one no more buffers are not_held
 
 record NotMore (c x : Context) : Type 0 where
-  pub out : (i : ℕ) → away x.out i ≤ away c.out i
-  pub cap : (i : ℕ) → away x.cap i ≤ away c.cap i
+  pub out : (i : ℕ) → not_held x.out i ≤ not_held c.out i
+  pub cap : (i : ℕ) → not_held x.cap i ≤ not_held c.cap i
 
 and_then : (c x y : Context) → NotMore c x → NotMore x y → NotMore c y
 and_then c x y a b =
@@ -60,7 +63,7 @@ and_then c x y a b =
 -- the same queues
 same_queues : (c x : Context) → x.out ≡ c.out → x.cap ≡ c.cap → NotMore c x
 same_queues c x o k =
-    record { out = λ i. let e = ap (λ q. away q i) o in omega arith; cap = λ i. let e = ap (λ q. away q i) k in omega arith }
+    record { out = λ i. let e = ap (λ q. not_held q i) o in omega arith; cap = λ i. let e = ap (λ q. not_held q i) k in omega arith }
 
 raised : (cause : Cause) (c : Context) → NotMore c (raise_end cause c)
 raised drain c = same_queues c (raise_end drain c) refl refl
@@ -102,7 +105,7 @@ then_settled : (c x : Context) → NotMore c x → SlotLess c (Some (settle x))
 unfolding SlotLess
 then_settled c x n = and_then c x (settle x) n (settle_away x)
 
-of_slot : (c : Context) (s : Slot) → SlotLess c s → (side : Side) (i : ℕ) → away_in side i s ≤ away_in side i (Some c)
+of_slot : (c : Context) (s : Slot) → SlotLess c s → (side : Side) (i : ℕ) → not_held_in side i s ≤ not_held_in side i (Some c)
 unfolding SlotLess
 of_slot c None n side i = omega arith
 of_slot c (Some x) n Out i = n.out i
@@ -214,9 +217,9 @@ control_less : (c : Context) (o : Option RunRates) → SlotLess c (control_answe
 control_less c None = here c
 control_less c (Some rates) = then_settled c (record c { rates = rates }) (same_queues c (record c { rates = rates }) refl refl)
 
--- what an answer does to the number of buffers with the index that are away, and whether one comes back
+-- what an answer does to the number of buffers with the index that are not_held, and whether one comes back
 abbrev Balance : Side → ℕ → Slot → Call → Answer → Type 0
-Balance side i s request a = cond (call_returns side i s request a.reply) 1 0 + away_in side i a.slot ≤ away_in side i s
+Balance side i s request a = cond (call_returns side i s request a.reply) 1 0 + not_held_in side i a.slot ≤ not_held_in side i s
 
 -- QBuf: another buffer, or one of the other side
 count_last : (k i : ℕ) (x : Buffer) → x.index ≡ k → eqb k i ≡ false → count_index (x ∷ []) i ≡ 0
@@ -227,7 +230,7 @@ queued_index : (side : Side) (b : Buffer) (used : ℕ) (stamp : Stamp) (bytes : 
 queued_index Out b used stamp bytes ordinal = refl
 queued_index Cap b used stamp bytes ordinal = refl
 
-queue_away : (q : QueueState) (k i used : ℕ) (stamp : Stamp) (bytes : List ℕ) → eqb k i ≡ false → (o : Option Buffer) → with_index k q.held ≡ o → away (queue_held q k o used stamp bytes) i ≤ away q i
+queue_away : (q : QueueState) (k i used : ℕ) (stamp : Stamp) (bytes : List ℕ) → eqb k i ≡ false → (o : Option Buffer) → with_index k q.held ≡ o → not_held (queue_held q k o used stamp bytes) i ≤ not_held q i
 queue_away q k i used stamp bytes n None e = omega arith
 queue_away q k i used stamp bytes n (Some b) e =
     let x = queued_buffer q.side b used stamp bytes q.next_ordinal in
@@ -235,17 +238,17 @@ queue_away q k i used stamp bytes n (Some b) e =
     let p = count-append q.ready (x ∷ []) i in
     omega arith
 
-queued_away : (c : Context) (on side : Side) (k i used : ℕ) (stamp : Stamp) (bytes : List ℕ) → (same_side on side && eqb k i) ≡ false → away (queue_of (with_queue c on (qbuf_after (queue_of c on) k used stamp bytes)) side) i ≤ away (queue_of c side) i
+queued_away : (c : Context) (on side : Side) (k i used : ℕ) (stamp : Stamp) (bytes : List ℕ) → (same_side on side && eqb k i) ≡ false → not_held (queue_of (with_queue c on (qbuf_after (queue_of c on) k used stamp bytes)) side) i ≤ not_held (queue_of c side) i
 queued_away c Out Out k i used stamp bytes n = queue_away c.out k i used stamp bytes n (with_index k c.out.held) refl
 queued_away c Out Cap k i used stamp bytes n = omega arith
 queued_away c Cap Out k i used stamp bytes n = omega arith
 queued_away c Cap Cap k i used stamp bytes n = queue_away c.cap k i used stamp bytes n (with_index k c.cap.held) refl
 
-settled_side : (x : Context) (side : Side) (i : ℕ) → away (queue_of (settle x) side) i ≤ away (queue_of x side) i
+settled_side : (x : Context) (side : Side) (i : ℕ) → not_held (queue_of (settle x) side) i ≤ not_held (queue_of x side) i
 settled_side x Out i = (settle_away x).out i
 settled_side x Cap i = (settle_away x).cap i
 
-queue_split : (c x : Context) (on side : Side) (k i used : ℕ) (stamp : Stamp) (o r : Option Errno) → call_queues side i (QBuf on k used stamp) (unless c o (unless c r (answered x Done))).reply ≡ false → ((same_side on side && eqb k i) ≡ false → away (queue_of x side) i ≤ away (queue_of c side) i) → away_in side i (unless c o (unless c r (answered x Done))).slot ≤ away (queue_of c side) i
+queue_split : (c x : Context) (on side : Side) (k i used : ℕ) (stamp : Stamp) (o r : Option Errno) → call_queues side i (QBuf on k used stamp) (unless c o (unless c r (answered x Done))).reply ≡ false → ((same_side on side && eqb k i) ≡ false → not_held (queue_of x side) i ≤ not_held (queue_of c side) i) → not_held_in side i (unless c o (unless c r (answered x Done))).slot ≤ not_held (queue_of c side) i
 queue_split c x on side k i used stamp (Some e) r n h = omega arith
 queue_split c x on side k i used stamp None (Some e) n h = omega arith
 queue_split c x on side k i used stamp None None n h =
@@ -253,7 +256,7 @@ queue_split c x on side k i used stamp None None n h =
     let b = h n in
     omega arith
 
-queue_balance : (c : Context) (on side : Side) (k i used : ℕ) (stamp : Stamp) (bytes : List ℕ) → call_queues side i (QBuf on k used stamp) (qbuf_answer c on k used stamp bytes).reply ≡ false → away_in side i (qbuf_answer c on k used stamp bytes).slot ≤ away (queue_of c side) i
+queue_balance : (c : Context) (on side : Side) (k i used : ℕ) (stamp : Stamp) (bytes : List ℕ) → call_queues side i (QBuf on k used stamp) (qbuf_answer c on k used stamp bytes).reply ≡ false → not_held_in side i (qbuf_answer c on k used stamp bytes).slot ≤ not_held (queue_of c side) i
 queue_balance c on side k i used stamp bytes n =
     let q = queue_of c on in
     queue_split c (with_queue c on (qbuf_after q k used stamp bytes)) on side k i used stamp (held_refusal q.side (with_index k q.held) used (sizeimage c on)) (refuse_if (is_part_of_picture c on used) Inval None) n (queued_away c on side k i used stamp bytes)
@@ -277,7 +280,7 @@ stop_cap c (last change) true = refl
 stop_cap c (last change) false = refl
 stop_cap c (stopped cause) b = refl
 
-take_away : (q : QueueState) (b : Buffer) (rest ds : List Buffer) (i : ℕ) → q.done ≡ ds → ds ≡ b ∷ rest → cond (eqb b.index i) 1 0 + away (take_front q ds) i ≤ away q i
+take_away : (q : QueueState) (b : Buffer) (rest ds : List Buffer) (i : ℕ) → q.done ≡ ds → ds ≡ b ∷ rest → cond (eqb b.index i) 1 0 + not_held (take_front q ds) i ≤ not_held q i
 take_away q b rest [] i e f = absurd (cc)
 take_away q b rest (x ∷ xs) i e f =
     let c = ap (λ l. count_index l i) (e ∙ f) in
@@ -300,13 +303,13 @@ take_balance c Cap Out i block (b ∷ rest) e =
     let x = record c { cap = dqbuf_after c.cap } in
     let y = after_taking x Cap in
     let p = (settle_away y).out i in
-    let q = ap (λ q. away q i) (stop_out x x.phase (is_empty x.cap.done)) in
+    let q = ap (λ q. not_held q i) (stop_out x x.phase (is_empty x.cap.done)) in
     omega arith
 take_balance c Cap Cap i block (b ∷ rest) e =
     let x = record c { cap = dqbuf_after c.cap } in
     let y = after_taking x Cap in
     let p = (settle_away y).cap i in
-    let q = ap (λ q. away q i) (stop_cap x x.phase (is_empty x.cap.done)) in
+    let q = ap (λ q. not_held q i) (stop_cap x x.phase (is_empty x.cap.done)) in
     let t = take_away c.cap b rest c.cap.done i refl e in
     omega arith
 
@@ -322,12 +325,12 @@ block_balance c from side i (Some Inval) block a b = omega arith
 block_balance c from side i (Some NoTty) block a b = omega arith
 block_balance c from side i (Some Pipe) block a b = omega arith
 
--- StreamOff: what was away comes back
+-- StreamOff: what was not_held comes back
 back_at_most : (n : ℕ) (b : Bool) → nat_lt 0 n ≡ b → cond b 1 0 ≤ n
 back_at_most n true e = ltb-true 0 n e
 back_at_most n false e = omega arith
 
-gone_away : (q : QueueState) (i : ℕ) → q.job ≡ [] → away (streamoff_after q) i ≡ 0
+gone_away : (q : QueueState) (i : ℕ) → q.job ≡ [] → not_held (streamoff_after q) i ≡ 0
 gone_away q i j = let c = ap (λ l. count_index l i) j in omega arith
 
 output_off_queues : (kind : Kind) (x : Context) → ((after_output_off kind x).out ≡ x.out) × ((after_output_off kind x).cap ≡ x.cap)
@@ -347,39 +350,39 @@ capture_effect c false = (refl, refl)
 off_balance : (c : Context) (stopped_side side : Side) (i : ℕ) → c.out.job ≡ [] → c.cap.job ≡ [] → Balance side i (Some c) (StreamOff stopped_side) (answered (streamoff_effect c stopped_side) Done)
 off_balance c Out Out i j k =
     let x = streamoff_effect c Out in
-    let e = ap (λ q. away q i) (output_off_queues c.kind (record c { out = streamoff_after c.out; mark = None; phase = without_drain_stop c.phase })).0 in
+    let e = ap (λ q. not_held q i) (output_off_queues c.kind (record c { out = streamoff_after c.out; mark = None; phase = without_drain_stop c.phase })).0 in
     let g = gone_away c.out i j in
     let p = (settle_away x).out i in
-    let b = back_at_most (away c.out i) (nat_lt 0 (away c.out i)) refl in
+    let b = back_at_most (ready_or_done c.out i) (nat_lt 0 (ready_or_done c.out i)) refl in
     omega arith
 off_balance c Out Cap i j k =
     let x = streamoff_effect c Out in
-    let e = ap (λ q. away q i) (output_off_queues c.kind (record c { out = streamoff_after c.out; mark = None; phase = without_drain_stop c.phase })).1 in
+    let e = ap (λ q. not_held q i) (output_off_queues c.kind (record c { out = streamoff_after c.out; mark = None; phase = without_drain_stop c.phase })).1 in
     let p = (settle_away x).cap i in
     omega arith
 off_balance c Cap Out i j k =
     let x = streamoff_effect c Cap in
-    let e = ap (λ q. away q i) (capture_effect c c.cap.streams).0 in
+    let e = ap (λ q. not_held q i) (capture_effect c c.cap.streams).0 in
     let p = (settle_away x).out i in
     omega arith
 off_balance c Cap Cap i j k =
     let x = streamoff_effect c Cap in
-    let e = ap (λ q. away q i) (capture_effect c c.cap.streams).1 in
+    let e = ap (λ q. not_held q i) (capture_effect c c.cap.streams).1 in
     let g = gone_away c.cap i k in
     let p = (settle_away x).cap i in
-    let b = back_at_most (away c.cap i) (nat_lt 0 (away c.cap i)) refl in
+    let b = back_at_most (ready_or_done c.cap i) (nat_lt 0 (ready_or_done c.cap i)) refl in
     omega arith
 
-off_split : (c : Context) (stopped_side side : Side) (i : ℕ) (b : Bool) → is_none c.running ≡ b → IsFirm c → Balance side i (Some c) (StreamOff stopped_side) (cond b (answered (streamoff_effect c stopped_side) Done) (unchanged c Blocked))
+off_split : (c : Context) (stopped_side side : Side) (i : ℕ) (b : Bool) → is_none c.running ≡ b → IsSoundButUnsettled c → Balance side i (Some c) (StreamOff stopped_side) (cond b (answered (streamoff_effect c stopped_side) Done) (unchanged c Blocked))
 off_split c stopped_side side i true e f =
     let jobs = without_job c f e in off_balance c stopped_side side i jobs.0 jobs.1
 off_split c stopped_side side i false e f = omega arith
 
 -- The whole table
-plain : (c : Context) (side : Side) (i : ℕ) (s : Slot) → SlotLess c s → 0 + away_in side i s ≤ away_in side i (Some c)
+plain : (c : Context) (side : Side) (i : ℕ) (s : Slot) → SlotLess c s → 0 + not_held_in side i s ≤ not_held_in side i (Some c)
 plain c side i s n = let h = of_slot c s n side i in omega arith
 
-context_balance : (c : Context) (side : Side) (i : ℕ) (request : Call) (bytes : List ℕ) (found : Bool) → IsSound c → call_queues side i request (context_answer c request bytes found).reply ≡ false → Balance side i (Some c) request (context_answer c request bytes found)
+context_balance : (c : Context) (side : Side) (i : ℕ) (request : Call) (bytes : List ℕ) (found : Bool) → IsOrdered c → call_queues side i request (context_answer c request bytes found).reply ≡ false → Balance side i (Some c) request (context_answer c request bytes found)
 unfolding context_answer SlotLess
 context_balance c side i (Open kind) bytes found s n = plain c side i (Some c) (here c)
 context_balance c side i Close bytes found s n =
@@ -408,7 +411,7 @@ context_balance c side i (GetCtrl id) bytes found s n = plain c side i _ (value_
 context_balance c side i (SetCtrl id value) bytes found s n = plain c side i _ (control_less c _)
 context_balance c side i Poll bytes found s n = plain c side i (Some c) (here c)
 
-fresh_away : (kind : Kind) (side : Side) (i : ℕ) → away_in side i (Some (fresh_context kind)) ≡ 0
+fresh_away : (kind : Kind) (side : Side) (i : ℕ) → not_held_in side i (Some (fresh_context kind)) ≡ 0
 fresh_away kind Out i = refl
 fresh_away kind Cap i = refl
 
@@ -418,14 +421,14 @@ closed_balance side i (Open kind) true = let e = fresh_away kind side i in omega
 closed_balance side i (Open kind) false = omega arith
 closed_balance side i request found = omega arith
 
-answer_balance : (s : Slot) (side : Side) (i : ℕ) (request : Call) (bytes : List ℕ) (found : Bool) → IsSoundSlot s → call_queues side i request (answer s request bytes found).reply ≡ false → Balance side i s request (answer s request bytes found)
+answer_balance : (s : Slot) (side : Side) (i : ℕ) (request : Call) (bytes : List ℕ) (found : Bool) → IsOrderedSlot s → call_queues side i request (answer s request bytes found).reply ≡ false → Balance side i s request (answer s request bytes found)
 unfolding answer
 answer_balance None side i request bytes found h n = closed_balance side i request found
 answer_balance (Some c) side i request bytes found h n = context_balance c side i request bytes found h n
 
 -- Claims
 
-cap_claim_away : (sort : RunSort) (q : QueueState) (i : ℕ) → away (cap_after_claim sort q) i ≤ away q i
+cap_claim_away : (sort : RunSort) (q : QueueState) (i : ℕ) → not_held (cap_after_claim sort q) i ≤ not_held q i
 cap_claim_away copy q i = lend_away q q.ready i refl
 cap_claim_away encode q i = lend_away q q.ready i refl
 cap_claim_away decode q i = lend_away q q.ready i refl
@@ -440,7 +443,7 @@ claim_away : (c : Context) → NotMore c (after_claim c)
 unfolding after_claim
 claim_away c = claimed_away c (sort_of c.kind c.geometry) c.out.ready
 
-claim_step_away : (s : Slot) (b : Bool) (side : Side) (i : ℕ) → away_in side i (claim_step s b).slot ≤ away_in side i s
+claim_step_away : (s : Slot) (b : Bool) (side : Side) (i : ℕ) → not_held_in side i (claim_step s b).slot ≤ not_held_in side i s
 unfolding SlotLess
 claim_step_away None b side i = omega arith
 claim_step_away (Some c) true side i = of_slot c (Some (after_claim c)) (claim_away c) side i
@@ -506,7 +509,7 @@ run_away c j (encoded frame) =
     and_then c x _ (same_queues c x refl refl) (done_away x j 0 (length frame.bytes) frame.bytes (type_flag frame.key) j.source.stamp)
 run_away c j (decoded step) =
     let x = record c { codec = decoder step.state } in
-    and_then c x _ (same_queues c x refl refl) (decoded_away x j (j.source.cursor + step.moved) step.outcome)
+    and_then c x _ (same_queues c x refl refl) (decoded_away x j (j.source.cursor + step.moved) (step_outcome j.format.fourcc step))
 
 fault_away : (c : Context) (j : JobData) → NotMore c (fault_effect c j)
 fault_away c j =
@@ -524,32 +527,32 @@ finish_away coder c r false =
     let y = run_effect x (job_data c r) (run_result coder (job_data c r)) in
     and_then c x _ (same_queues c x refl refl) (and_then x y _ (run_away x (job_data c r) (run_result coder (job_data c r))) (settle_away y))
 
-finish_job_away : (coder : Coder) (c : Context) (o : Option Running) (fault : Bool) (side : Side) (i : ℕ) → away_in side i (finish_job coder c o fault).slot ≤ away_in side i (Some c)
+finish_job_away : (coder : Coder) (c : Context) (o : Option Running) (fault : Bool) (side : Side) (i : ℕ) → not_held_in side i (solo_finish coder c o fault).slot ≤ not_held_in side i (Some c)
 unfolding SlotLess
 finish_job_away coder c None fault side i = omega arith
 finish_job_away coder c (Some r) fault side i =
     of_slot c (Some (after_finish coder c r fault)) (finish_away coder c r fault) side i
 
-finish_step_away : (coder : Coder) (s : Slot) (fault : Bool) (side : Side) (i : ℕ) → away_in side i (finish_step coder s fault).slot ≤ away_in side i s
+finish_step_away : (coder : Coder) (s : Slot) (fault : Bool) (side : Side) (i : ℕ) → not_held_in side i (finish_step coder s fault).slot ≤ not_held_in side i s
 finish_step_away coder None fault side i = omega arith
 finish_step_away coder (Some c) fault side i = finish_job_away coder c c.running fault side i
 
 -- Steps and runs
 
-step_balance : (coder : Coder) (s : Slot) (e : SoloEvent) (side : Side) (i : ℕ) → IsSoundSlot s → is_queued side i e (solo_step coder s e).told ≡ false → cond (comes_back side i s e (solo_step coder s e).told) 1 0 + away_in side i (solo_step coder s e).slot ≤ away_in side i s
+step_balance : (coder : Coder) (s : Slot) (e : SoloEvent) (side : Side) (i : ℕ) → IsOrderedSlot s → is_queued side i e (solo_step coder s e).told ≡ false → cond (comes_back side i s e (solo_step coder s e).told) 1 0 + not_held_in side i (solo_step coder s e).slot ≤ not_held_in side i s
 unfolding solo_step
 step_balance coder s (Called request bytes found) side i h n = answer_balance s side i request bytes found h n
 step_balance coder s Claims side i h n = let a = claim_step_away s (is_claimable s) side i in omega arith
 step_balance coder s (Finishes fault) side i h n = let a = finish_step_away coder s fault side i in omega arith
 
-run_balance : (coder : Coder) (side : Side) (i : ℕ) (s : Slot) (es : List SoloEvent) → IsSoundSlot s → IsNotQueued coder side i s es → returns_in coder side i s es ≤ away_in side i s
+run_balance : (coder : Coder) (side : Side) (i : ℕ) (s : Slot) (es : List SoloEvent) → IsOrderedSlot s → IsNotQueued coder side i s es → returns_in coder side i s es ≤ not_held_in side i s
 run_balance coder side i s [] h n = omega arith
 run_balance coder side i s (e ∷ es) h n =
     let step = step_balance coder s e side i h n.0 in
     let rest = run_balance coder side i (solo_step coder s e).slot es (step_sound coder s e h) n.1 in
     omega arith
 
-away_at_most : (s : Slot) (side : Side) (i : ℕ) → IsSoundSlot s → away_in side i s ≤ 1
+away_at_most : (s : Slot) (side : Side) (i : ℕ) → IsOrderedSlot s → not_held_in side i s ≤ 1
 away_at_most None side i h = omega arith
 away_at_most (Some c) Out i h =
     let a = once_at_most c.out h.firm.out.once i in
@@ -562,5 +565,52 @@ away_at_most (Some c) Cap i h =
 
 pub back_once : BackOnce
 back_once coder events more side i n =
-    let h = always_sound coder events in
+    let h = always_ordered coder events in
     (run_balance coder side i (solo_slot coder None events) more h n, away_at_most (solo_slot coder None events) side i h)
+
+-- ReqBufs and Close
+
+dropped_new : (kind : Kind) (side : Side) (x : Context) (i : ℕ) → not_held (queue_of x side) i ≡ 0 → not_held (queue_of (after_new_buffers kind side x) side) i ≡ 0
+dropped_new Copy Out x i e = e
+dropped_new Copy Cap x i e = e
+dropped_new Enc Out x i e = e
+dropped_new Enc Cap x i e = e
+dropped_new Dec Out x i e = e
+dropped_new Dec Cap x i e = e
+
+settled_none : (x : Context) (side : Side) (i : ℕ) → not_held (queue_of x side) i ≡ 0 → not_held (queue_of (settle x) side) i ≡ 0
+settled_none x Out i e = let h = (settle_away x).out i in omega arith
+settled_none x Cap i e = let h = (settle_away x).cap i in omega arith
+
+dropped_queue : (c : Context) (side : Side) (count size i : ℕ) → not_held (queue_of (with_queue c side (reqbufs_after (queue_of c side) count size)) side) i ≡ 0
+dropped_queue c Out count size i = refl
+dropped_queue c Cap count size i = refl
+
+dropped_split : (c : Context) (side : Side) (count counted i : ℕ) (o : Option Errno) (found : Bool) → let x = after_new_buffers c.kind side (with_queue c side (reqbufs_after (queue_of c side) count (sizeimage c side))) in let a = unless c o (if_found c found (answered x (Count (min count most_buffers)))) in a.reply ≡ Count counted → not_held_in side i a.slot ≡ 0
+dropped_split c side count counted i (Some errno) found e = absurd (cc)
+dropped_split c side count counted i None true e =
+    let x = after_new_buffers c.kind side (with_queue c side (reqbufs_after (queue_of c side) count (sizeimage c side))) in
+    settled_none x side i (dropped_new c.kind side (with_queue c side (reqbufs_after (queue_of c side) count (sizeimage c side))) i (dropped_queue c side count (sizeimage c side) i))
+dropped_split c side count counted i None false e = absurd (cc)
+
+dropped_slot : (s : Slot) (side : Side) (count counted i : ℕ) (bytes : List ℕ) (found : Bool) → (answer s (ReqBufs side count) bytes found).reply ≡ Count counted → not_held_in side i (answer s (ReqBufs side count) bytes found).slot ≡ 0
+unfolding answer context_answer closed_answer
+dropped_slot None side count counted i bytes found e = absurd (cc)
+dropped_slot (Some c) side count counted i bytes found e =
+    dropped_split c side count counted i (reqbufs_refusal (queue_of c side)) found e
+
+closed_split : (c : Context) (b : Bool) → let a = cond b (record { slot = None; reply = Done; bytes = [] }) (unchanged c Blocked) in a.reply ≡ Done → a.slot ≡ None
+closed_split c true e = refl
+closed_split c false e = absurd (cc)
+
+closed_slot : (s : Slot) (bytes : List ℕ) (found : Bool) → (answer s Close bytes found).reply ≡ Done → (answer s Close bytes found).slot ≡ None
+unfolding answer context_answer closed_answer
+closed_slot None bytes found e = refl
+closed_slot (Some c) bytes found e = closed_split c (is_none c.running) e
+
+pub buffers_are_dropped : BuffersAreDropped
+buffers_are_dropped coder events =
+    record {
+      reqbufs = λ side count counted i bytes found e. dropped_slot (solo_slot coder None events) side count counted i bytes found e;
+      close = λ bytes found e. closed_slot (solo_slot coder None events) bytes found e;
+    }

@@ -18,19 +18,19 @@ use Rattle.vc_base.specs.Buffers.{Buffer, QueueState, buffer_count, is_empty, re
 use Rattle.vc_base.specs.Events.{EventState, source_change_event}
 use Rattle.vc_model.specs.Formats.{FormatPair, formats_found}
 use Rattle.vc_model.specs.Coder.{Coder, encoder, decoder, reset}
-use Rattle.vc_defs.specs.Decoder.{DecodedResult, picture, damaged, changed, spent}
+use Rattle.vc_defs.specs.Decoder.{DecodedResult, picture, damaged, changed, spent, step_outcome}
 use Rattle.vc_defs.specs.Encoder.{RunRates}
 use Rattle.vc_model.specs.Context.{Context, Slot, Running, RunSort, Cause, drain, change, PhaseState, run, owe, last, stopped, queue_of, with_queue, is_dec, is_enc, is_drained, sizeimage, raise_end, settle, settle_owed, settle_last, give_last}
 use Rattle.vc_model.specs.Answer.{Answer, unchanged, refused, answered, unless, if_found, unless_or_block, desc_answer, set_answer, set_refusal, after_new_format, reqbufs_answer, after_new_buffers, create_answer, query_answer, qbuf_answer, is_part_of_picture, taken_answer, after_taking, stop_at_last, is_ended, streamon_answer, streamoff_answer, streamoff_effect, without_drain_stop, after_output_off, mark_after_restart, after_capture_off, both_stream, is_stopped_by_drain, stop_answer, start_is_early, start_answer, command_answer, value_answer, control_answer, context_answer, answer}
 use Rattle.vc_model.specs.Runs.{is_claimable, sort_of, claim_front, after_claim, JobData, job_data, RunResult, copied, encoded, decoded, run_result, source_done, source_back, dest_done, dest_back, type_flag, source_moved, decoded_effect, run_effect, after_finish}
-use Rattle.vc_model.specs.Solo.{SoloEvent, Called, Claims, Finishes, solo_step, claim_step, finish_job}
+use Rattle.vc_model.specs.Solo.{SoloEvent, Called, Claims, Finishes, solo_step, claim_step, solo_finish}
 use Rattle.vc_base.specs.Events.{raise_after, eos_event}
 use Rattle.vc_model.specs.Context.{is_run}
 use Rattle.vc_model.specs.Drains.{is_last_by_drain, gives_last, EndsAreTold}
-use Rattle.vc_model.specs.Sound.{HasItsBuffers, is_put_off, IsSettled, IsSound, IsSoundSlot}
+use Rattle.vc_model.specs.Sound.{HasItsBuffers, drain_not_noted, IsSettled, IsOrdered, IsOrderedSlot}
 use Rattle.vc_model.proofs.Tests.{and_left, and_right, and_false, not_true}
 use Rattle.vc_model.proofs.Settled.{settles_once}
-use Rattle.vc_model.proofs.Ending.{always_sound}
+use Rattle.vc_model.proofs.Ending.{always_ordered}
 
 abbrev Told : Context → Context → Type 0
 Told c x = gives_last c x ≡ true → x.events ≡ raise_after c.events eos_event 0
@@ -354,7 +354,7 @@ unfolding settle
 change_told c y true s p r =
     other_phase c (settle (record y { phase = owe change })) (change_given (record y { phase = owe change }) y.cap.ready refl)
 change_told c y false s p r =
-    let still = quiet_drain y (is_put_off y) (no_stream (is_run y.phase) y.cap.streams (is_none y.running) (is_drained y.out.ready y.mark) s) (p ∙ is_in_run c.phase r) in
+    let still = quiet_drain y (drain_not_noted y) (no_stream (is_run y.phase) y.cap.streams (is_none y.running) (is_drained y.out.ready y.mark) s) (p ∙ is_in_run c.phase r) in
     same_phase c (settle y) (ap (λ z. z.phase) still ∙ p)
 
 decoded_told : (c x : Context) (j : JobData) (cursor : ℕ) (result : DecodedResult) → x.events ≡ c.events → x.phase ≡ c.phase → is_run c.phase ≡ true → Told c (settle (decoded_effect x j cursor result))
@@ -378,7 +378,7 @@ run_told c x j (copied bytes) e p r = dest_told c (source_done x j 0) j.dest tru
 run_told c x j (encoded frame) e p r =
     dest_told c (source_done (record x { codec = encoder frame.state }) j 0) j.dest true (length frame.bytes) frame.bytes (type_flag frame.key) j.source.stamp e p
 run_told c x j (decoded step) e p r =
-    decoded_told c (record x { codec = decoder step.state }) j (j.source.cursor + step.moved) step.outcome e p r
+    decoded_told c (record x { codec = decoder step.state }) j (j.source.cursor + step.moved) (step_outcome j.format.fourcc step) e p r
 
 finish_told : (coder : Coder) (c : Context) (r : Running) (fault : Bool) → is_run c.phase ≡ true → Told c (after_finish coder c r fault)
 unfolding after_finish
@@ -387,12 +387,12 @@ finish_told coder c r true p =
 finish_told coder c r false p =
     run_told c (record c { running = None }) (job_data c r) (run_result coder (job_data c r)) refl refl p
 
-finish_job_told : (coder : Coder) (c : Context) (o : Option Running) (fault : Bool) → HasItsBuffers c o → SlotTold c (finish_job coder c o fault).slot
+finish_job_told : (coder : Coder) (c : Context) (o : Option Running) (fault : Bool) → HasItsBuffers c o → SlotTold c (solo_finish coder c o fault).slot
 unfolding SlotTold
 finish_job_told coder c None fault h = same_phase c c refl
 finish_job_told coder c (Some r) fault h = finish_told coder c r fault h.0
 
-step_told : (coder : Coder) (c : Context) (e : SoloEvent) → IsSound c → SlotTold c (solo_step coder (Some c) e).slot
+step_told : (coder : Coder) (c : Context) (e : SoloEvent) → IsOrdered c → SlotTold c (solo_step coder (Some c) e).slot
 unfolding solo_step answer
 step_told coder c (Called request bytes found) s = context_told c request bytes found s.settled
 step_told coder c Claims s = claim_told c (is_claimable (Some c))
@@ -401,4 +401,4 @@ step_told coder c (Finishes fault) s = finish_job_told coder c c.running fault s
 pub ends_are_told : EndsAreTold
 unfolding SlotTold
 ends_are_told coder events e before after at next =
-    subst (SlotTold before) next (step_told coder before e (subst IsSoundSlot at (always_sound coder events)))
+    subst (SlotTold before) next (step_told coder before e (subst IsOrderedSlot at (always_ordered coder events)))

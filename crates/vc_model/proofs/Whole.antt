@@ -18,17 +18,17 @@ use Rattle.vc_base.specs.Events.{EventState}
 use Rattle.vc_defs.specs.declared.Geometry.{Geometry}
 use Rattle.vc_model.specs.Formats.{FormatPair}
 use Rattle.vc_model.specs.Coder.{Coder, CodecState, encoder, decoder, reset}
-use Rattle.vc_defs.specs.Decoder.{DecodedResult, picture, damaged, changed, spent}
+use Rattle.vc_defs.specs.Decoder.{DecodedResult, picture, damaged, changed, spent, step_outcome}
 use Rattle.vc_defs.specs.Encoder.{RunRates}
 use Rattle.vc_model.specs.Context.{Context, Slot, Running, RunSort, copy, encode, decode, probe, Cause, drain, change, PhaseState, run, owe, last, stopped, queue_of, with_queue, is_dec, is_enc, is_drained, sizeimage, raise_end, settle, settle_drain, settle_last, give_last}
 use Rattle.vc_model.specs.Answer.{Answer, unchanged, refused, answered, unless, if_found, unless_or_block, desc_answer, set_answer, set_refusal, after_new_format, reqbufs_answer, after_new_buffers, create_answer, query_answer, qbuf_answer, is_part_of_picture, taken_answer, after_taking, stop_at_last, is_ended, streamon_answer, streamoff_answer, streamoff_effect, without_drain_stop, after_output_off, mark_after_restart, after_capture_off, both_stream, is_stopped_by_drain, stop_answer, start_is_early, start_answer, command_answer, value_answer, control_answer, context_answer, closed_answer, answer}
 use Rattle.vc_model.specs.Runs.{is_claimable, sort_of, cap_after_claim, claim_front, after_claim, JobData, job_data, RunResult, copied, encoded, decoded, run_result, source_done, source_back, dest_done, dest_back, type_flag, source_moved, decoded_effect, run_effect, fault_effect, after_finish}
-use Rattle.vc_model.specs.Solo.{SoloEvent, Called, Claims, Finishes, solo_step, solo_run, solo_slot, claim_step, finish_job, finish_step}
+use Rattle.vc_model.specs.Solo.{SoloEvent, Called, Claims, Finishes, solo_step, solo_run, solo_slot, claim_step, solo_finish, finish_step}
 use Rattle.std.specs.List.{list_all}
 use Rattle.std.proofs.lemmas.Bool.{eq-eqb}
 use Rattle.std.proofs.lemmas.List.Folds.{list_all-append}
 use Rattle.vc_model.specs.Runs.{source_of}
-use Rattle.vc_model.specs.Places.{is_honest_call, is_honest, AreHonest, is_whole, is_whole_reply, hands_whole, HandsWhole}
+use Rattle.vc_model.specs.Places.{is_honest_call, is_honest, AreHonest, is_whole, is_whole_reply, hands_whole, HandsWhole, HaveBytes, SourcesAreWhole}
 use Rattle.vc_model.proofs.Tests.{and_left, and_right, and_both}
 
 -- an OUTPUT buffer that was queued has all its bytes
@@ -600,7 +600,7 @@ run_whole c j (encoded frame) s w =
     let x = record c { codec = encoder frame.state } in
     dest_whole (source_done x j 0) j.dest true frame.bytes (type_flag frame.key) j.source.stamp (done_whole x j 0 s (inl refl) (with_codec c (encoder frame.state) w))
 run_whole c j (decoded step) s w =
-    decoded_whole (record c { codec = decoder step.state }) j (j.source.cursor + step.moved) step.outcome s (with_codec c (decoder step.state) w)
+    decoded_whole (record c { codec = decoder step.state }) j (j.source.cursor + step.moved) (step_outcome j.format.fourcc step) s (with_codec c (decoder step.state) w)
 
 fault_whole : (c : Context) (j : JobData) → IsSource c j → IsWhole c → IsWhole (fault_effect c j)
 fault_whole c j s w =
@@ -620,7 +620,7 @@ finish_whole coder c r false w =
     let x = record c { running = None } in
     settle_whole (run_effect x (job_data c r) (run_result coder (job_data c r))) (run_whole x (job_data c r) (run_result coder (job_data c r)) refl (without_running c w))
 
-finish_job_whole : (coder : Coder) (c : Context) (o : Option Running) (fault : Bool) → IsWhole c → SlotWhole (finish_job coder c o fault).slot
+finish_job_whole : (coder : Coder) (c : Context) (o : Option Running) (fault : Bool) → IsWhole c → SlotWhole (solo_finish coder c o fault).slot
 unfolding SlotWhole
 finish_job_whole coder c None fault w = w
 finish_job_whole coder c (Some r) fault w = finish_whole coder c r fault w
@@ -698,3 +698,19 @@ pub always_hands : HandsWhole
 unfolding SlotWhole
 always_hands coder events e n =
     step_hands coder (solo_slot coder None events) e (run_whole_slot coder None events n tt)
+
+context_sources : (c : Context) → IsWhole c → HaveBytes c.out.ready × HaveBytes c.out.job
+unfolding IsWhole
+context_sources c w = (w.ready, w.job)
+
+slot_sources : (c : Context) → SlotWhole (Some c) → HaveBytes c.out.ready × HaveBytes c.out.job
+unfolding SlotWhole
+slot_sources c w = context_sources c w
+
+none_whole : SlotWhole None
+unfolding SlotWhole
+none_whole = tt
+
+pub sources_are_whole : SourcesAreWhole
+sources_are_whole coder events c h e =
+    slot_sources c (subst SlotWhole e (run_whole_slot coder None events h none_whole))

@@ -1,0 +1,5 @@
+use Rattle.vc_defs.proofs.Bounds.{coefficients_fit}
+use Rattle.vc_defs.proofs.laws.coefficients_fit.Goals as goal
+
+pub returns : goal.returns
+returns c = coefficients_fit

@@ -1,0 +1,5 @@
+use Rattle.vc_defs.proofs.Pictures.{decoded_is_picture}
+use Rattle.vc_defs.proofs.laws.decoded_is_picture.Goals as goal
+
+pub returns : goal.returns
+returns c = decoded_is_picture

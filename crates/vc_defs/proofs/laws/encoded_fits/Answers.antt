@@ -1,0 +1,5 @@
+use Rattle.vc_defs.proofs.Encoding.{encoded_fits}
+use Rattle.vc_defs.proofs.laws.encoded_fits.Goals as goal
+
+pub returns : goal.returns
+returns c = encoded_fits

@@ -1,0 +1,5 @@
+use Rattle.vc_defs.proofs.Encoding.{encodes_planes}
+use Rattle.vc_defs.proofs.laws.encodes_planes.Goals as goal
+
+pub returns : goal.returns
+returns c = encodes_planes

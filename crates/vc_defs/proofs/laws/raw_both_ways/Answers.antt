@@ -1,0 +1,5 @@
+use Rattle.vc_defs.proofs.RawPictures.{raw_both_ways}
+use Rattle.vc_defs.proofs.laws.raw_both_ways.Goals as goal
+
+pub returns : goal.returns
+returns c = raw_both_ways

@@ -1,0 +1,5 @@
+use Rattle.vc_defs.proofs.ByFinds.{results_are_of_finds}
+use Rattle.vc_defs.proofs.laws.results_are_of_finds.Goals as goal
+
+pub returns : goal.returns
+returns c = results_are_of_finds

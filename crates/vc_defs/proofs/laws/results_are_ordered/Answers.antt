@@ -1,0 +1,5 @@
+use Rattle.vc_defs.proofs.ResultOrder.{results_are_ordered}
+use Rattle.vc_defs.proofs.laws.results_are_ordered.Goals as goal
+
+pub returns : goal.returns
+returns c = results_are_ordered

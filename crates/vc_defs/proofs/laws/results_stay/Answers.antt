@@ -1,0 +1,5 @@
+use Rattle.vc_defs.proofs.ResultOrder.{results_stay}
+use Rattle.vc_defs.proofs.laws.results_stay.Goals as goal
+
+pub returns : goal.returns
+returns c = results_stay

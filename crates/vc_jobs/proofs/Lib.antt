@@ -1,0 +1,2 @@
+mod RingLemmas
+mod Holding

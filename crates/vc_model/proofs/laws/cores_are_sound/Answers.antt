@@ -1,0 +1,5 @@
+use Rattle.vc_model.proofs.CoreSound.{cores_are_sound}
+use Rattle.vc_model.proofs.laws.cores_are_sound.Goals as goal
+
+pub returns : goal.returns
+returns c = cores_are_sound

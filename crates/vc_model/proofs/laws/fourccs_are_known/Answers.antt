@@ -1,0 +1,5 @@
+use Rattle.vc_model.proofs.Knowing.{fourccs_known}
+use Rattle.vc_model.proofs.laws.fourccs_are_known.Goals as goal
+
+pub returns : goal.returns
+returns c = fourccs_known

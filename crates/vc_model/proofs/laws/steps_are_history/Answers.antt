@@ -1,0 +1,5 @@
+use Rattle.vc_model.proofs.Standing.{steps_are_history}
+use Rattle.vc_model.proofs.laws.steps_are_history.Goals as goal
+
+pub returns : goal.returns
+returns c = steps_are_history
