@@ -1,13 +1,12 @@
 -- A ring of slots: what a write to one link leaves as it is, and what linking and unlinking a slot does.
-use Rattle.std.proofs.Common.{ℕ, zero, suc, ◌+◌, ◌≡◌, ◌≢◌, ◌<◌, ◌≤◌, Bool, not, eqb, true, false, Option, Some, None, List, [], ◌∷◌, ◌++◌, length, get_or, set, replicate, take, drop, length-take, length-drop, get_or-take, get_or-drop, take-append-drop, refl, sym, ap, ◌∙◌, subst, ⊎_elim, arith, get_or-set_same, get_or-set_other, length-set}
+use Rattle.std.proofs.Common.{ℕ, zero, suc, ◌+◌, ◌≡◌, ◌≢◌, ◌<◌, ◌≤◌, Bool, eqb, true, false, Some, None, List, [], ◌∷◌, ◌++◌, length, get_or, set, replicate, take, drop, length-take, length-drop, get_or-take, get_or-drop, take-append-drop, refl, sym, ap, ◌∙◌, subst, ⊎_elim, arith, get_or-set_same, get_or-set_other, length-set}
 use Rattle.std.specs.Prelude.{All, Contains, ◌||◌}
 use Rattle.std.specs.List.{list_any}
 use Rattle.std.proofs.lemmas.Bool.{lt-ltb, le-ltb, ne_eqb, eqb-true, cases_eq, eq-eqb, false≢true, or_cases}
 use Rattle.std.proofs.lemmas.List.{get_or_default, drop_more, length-replicate, get_or-replicate}
-use Rattle.std.proofs.lemmas.List.Folds.{list_any-append}
 use Rattle.std.proofs.lemmas.Map.Keys.{IsDistinct-from_apart}
 use Rattle.std.proofs.lemmas.Map.Steps.{length-le_from_distinct_below}
-use Rattle.vc_jobs.specs.Jobs.{waits, without, front_of, rest_of, waiting_after, EachOnce, Jobs, AreSlots}
+use Rattle.vc_jobs.specs.Jobs.{waits, without, front_of, rest_of, EachOnce, AreSlots}
 use Rattle.vc_jobs.specs.Rings.{walk, ring, Path, IsRing}
 
 -- the number is not in the list

@@ -8,7 +8,6 @@ use Rattle.vc_base.specs.declared.Errno.TheVariants.{Busy, Inval}
 use Rattle.vc_base.specs.Buffers.{Buffer, QueueState, new_queue, is_empty, refuse_if, dqbuf_after, streamoff_after, long_enough, lend_after, retire_after, last_flag, zero_stamp}
 use Rattle.vc_model.specs.Context.{Cause, drain, change, PhaseState, run, owe, last, stopped, is_run, is_stopped, is_drain, is_drained}
 use Rattle.vc_model.specs.Answer.{without_drain_stop, mark_after_restart, is_stopped_by_drain, start_is_early}
-use Rattle.vc_queue.specs.declared.queue.Lent.{Lent}
 use Rattle.vc_queue.specs.Holds.{HoldState, Fits}
 
 -- The queues, the phase and the mark of a context.
@@ -79,11 +78,6 @@ pair_started p = if not (both_streaming p) then p else record p { phase = run }
 
 -- The end of a job
 
--- what comes back has the used bytes and the stamp of the buffer of the job
-abbrev pub IsAsQueued : List Buffer → Lent → Type 0
-IsAsQueued [] lent = ⊥
-IsAsQueued (b ∷ rest) lent = (lent.used ≡ b.used) × (lent.stamp ≡ b.stamp)
-
 -- the source goes to done with the used bytes and the stamp that it was queued with
 abbrev pub source_retired : QueueState → List Buffer → List ℕ → ℕ → QueueState
 source_retired q [] bytes flags = q
@@ -145,6 +139,19 @@ gives_end p (stopped cause) = false
 
 abbrev pub raises_end : PairState → Bool
 raises_end p = let o = owing p in gives_end o o.phase
+
+-- a LAST buffer that could be given and was not
+abbrev pub is_held_back : PhaseState → List Buffer → Bool
+is_held_back run ready = false
+is_held_back (owe cause) ready = not (is_empty ready)
+is_held_back (last cause) ready = false
+is_held_back (stopped cause) ready = false
+
+-- A drain is not put off: where it has come to its end its LAST buffer is owed, and where that is owed no
+-- CAPTURE buffer is ready.
+pub record IsSettled (p : PairState) : Type 0 where
+  pub noted : owes_last p ≡ false
+  pub given : is_held_back p.phase p.cap.ready ≡ false
 
 -- whether the front ready OUTPUT buffer may be worked on
 abbrev pub is_due : List Buffer → Option ℕ → Bool

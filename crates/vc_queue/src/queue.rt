@@ -1,6 +1,6 @@
 //! One queue of buffers.
 
-ghost use Rattle.std.specs.Prelude.{◌≡◌, ◌≢◌, ◌<◌, ◌≤◌, ◌+◌, ◌^◌, ◌↔◌, ℕ, None, Some, List, [], ◌∷◌, length, take, IsTrue, is_some, nat_le, nat_lt, ◌++◌, min, IfOk, OnErr};
+ghost use Rattle.std.specs.Prelude.{◌≡◌, ◌≢◌, ◌<◌, ◌≤◌, ◌+◌, ◌^◌, ◌↔◌, ℕ, None, Some, List, [], ◌∷◌, length, take, IsTrue, not, is_some, nat_le, nat_lt, ◌++◌, min, IfOk, OnErr};
 ghost use Rattle.std.specs.List.{list_all, list_any};
 ghost use Rattle.std.specs.Option.{option_map, ok_or};
 ghost use Rattle.vc_base.specs.Buffers.{dqbuf_refusal, dqbuf_after, new_queue, buffer_count, long_enough, without_job_bytes, lend_after, give_back_after, retire_after, streamon_refusal, streamon_after, querybuf_reply, with_index, qbuf_refusal, qbuf_after, streamoff_after, most_buffers, reqbufs_refusal, reqbufs_after, create_refusal, created, create_after};
@@ -10,7 +10,7 @@ ghost use Rattle.vc_queue.specs.Answers.{answer_of, after_of, front_taken, Hands
 ghost use Rattle.vc_queue.specs.Cells.{queued_cell, told_flags};
 ghost use Rattle.vc_queue.specs.Growing.{cannot_grow, AnswersWithMemory, KeepsFirst, HasNew, IsLong, one_added, added, cleared, without_side};
 ghost use Rattle.vc_queue.specs.Holds.{Fits, with_payload};
-ghost use Rattle.vc_queue.specs.Lending.{IsLentFrom, IsBack, back_bytes};
+ghost use Rattle.vc_queue.specs.Lending.{IsLentFrom, IsBack, back_bytes, queued_with};
 ghost use Rattle.vc_queue.specs.Releasing.{is_before, front_ordinal, goes_back, AreStored, IsReleased, AllGoToUser, is_fine};
 
 use crate::hold::Hold;
@@ -53,17 +53,25 @@ struct Cell {
     ordinal: u64,
 }
 
-/// A buffer that a job has.
+/// A buffer that a job has, with its payload. Its length in bytes is that of the payload.
 #[derive(Drop)]
 pub struct Lent {
+    /// The buffer's index on its queue.
     pub index: u32,
+    /// How many bytes of an OUTPUT buffer count, from the front of the payload; 0 on CAPTURE.
     pub used: u32,
+    /// How many of these bytes earlier jobs took.
     pub cursor: u32,
+    /// The timestamp that the buffer was queued with.
     pub stamp: Stamp,
+    /// All bytes of the buffer.
     pub payload: Vec<u8>,
 }
 
-/// One queue: its buffers lie in an array of cells, and lists over the cells tell where each is.
+/// One queue of a context, with 0 to 32 buffers. Each buffer is in one place: with the user, ready, in
+/// the job or done. The buffers lie in an array of cells, and four lists over the cells tell where each
+/// is. The rules are those of the chapter "Input/Output" of the Linux userspace API documentation, as
+/// far as docs/DEVICE.md does not say otherwise.
 #[derive(Drop)]
 pub struct Queue {
     side: Side,
@@ -281,7 +289,7 @@ fn new_payloads(alloc: Global, number: usize, size: u32) -> Result<Payloads, NoM
 }
 
 impl Queue {
-    /// A queue without buffers.
+    /// A queue without buffers, which does not stream.
     pub fn new(side: Side) -> Queue
         ensures { result ≡ new_queue side }
     {
@@ -304,7 +312,7 @@ impl Queue {
         self.streaming
     }
 
-    /// The number of buffers.
+    /// The number of buffers, 0 to 32.
     pub fn buffers(&self) -> u32
         ensures number { result ≡ buffer_count self.now }
         ensures few { buffer_count self.now ≤ 32 }
@@ -314,14 +322,16 @@ impl Queue {
 
     /// Whether a buffer is in the job.
     pub fn is_lent(&self) -> bool
-        ensures { IsTrue result ↔ (self.now.job ≢ []) }
+        ensures lent { IsTrue result ↔ (self.now.job ≢ []) }
+        ensures free { IsTrue (not result) ↔ (self.now.job ≡ []) }
     {
         self.links.front(JOB).is_some()
     }
 
     /// The number of ready buffers.
     pub fn ready_len(&self) -> u32
-        ensures { result ≡ length self.now.ready }
+        ensures number { result ≡ length self.now.ready }
+        ensures some { 0 < result ↔ (self.now.ready ≢ []) }
     {
         list_len(&self.links, READY)
     }
@@ -333,7 +343,8 @@ impl Queue {
         list_len(&self.links, DONE)
     }
 
-    /// Whether every ready buffer, and at least one buffer of the queue, has at least that size.
+    /// Whether every ready buffer, and at least one buffer of the queue, has at least `least` bytes:
+    /// the test of START and of streaming on CAPTURE.
     pub fn long_enough(&self, least: u32) -> bool
         ensures { result ≡ long_enough self.now least }
     {
@@ -341,11 +352,19 @@ impl Queue {
         none_short(&self.cells, count, least) && some_long(&self.cells, count, least)
     }
 
-    /// The number of buffers that were queued so far.
+    /// The number of buffers that were queued so far, which is the ordinal of the next one.
     pub fn queued(&self) -> u64
         ensures { result ≡ self.now.next_ordinal }
     {
         self.next_ordinal
+    }
+
+    /// The number of buffers that went to done since the queue last stopped streaming, which is the
+    /// sequence number of the next one.
+    pub fn retired(&self) -> u64
+        ensures { result ≡ self.now.next_seq }
+    {
+        self.next_seq
     }
 
     /// The ordinal of the front of ready.
@@ -356,6 +375,17 @@ impl Queue {
             return None;
         };
         Some(self.cells[index].ordinal)
+    }
+
+    /// The used bytes of the buffer in the job, and its stamp, as it was queued.
+    pub fn queued_with(&self) -> Option<(u32, Stamp)>
+        ensures { result ≡ queued_with self.now.job }
+    {
+        let Some(index) = self.links.front(JOB) else {
+            return None;
+        };
+        let cell = self.cells[index];
+        Some((cell.used, cell.stamp))
     }
 
     /// Whether some ready buffer was queued before the mark.
@@ -428,7 +458,11 @@ impl Queue {
         }
     }
 
-    /// Drops all buffers, and makes new ones of one size, which the user holds.
+    /// VIDIOC_REQBUFS: drops all buffers, and makes `count` new ones of `length` bytes, 32 at most,
+    /// which the user holds. Gives their number.
+    ///
+    /// # Errors
+    /// EBUSY where the queue streams, else ENOMEM where no memory is found. Then nothing changes.
     pub fn reqbufs(
         &mut self,
         alloc: Global,
@@ -454,7 +488,12 @@ impl Queue {
         Ok(number)
     }
 
-    /// Adds new buffers of one size, which the user holds.
+    /// VIDIOC_CREATE_BUFS: adds `count` buffers of `length` bytes, as far as there is room for 32, with
+    /// the next indices. The user holds them. Gives the first new index, and the number of new buffers.
+    ///
+    /// # Errors
+    /// EINVAL where `length` is not 1 to 17,694,764, or the queue has 32 buffers and `count` is above 0,
+    /// else ENOMEM where no memory is found. Then nothing changes.
     pub fn create(
         &mut self,
         alloc: Global,
@@ -480,7 +519,11 @@ impl Queue {
         Ok((first, number))
     }
 
-    /// Lets the queue stream.
+    /// VIDIOC_STREAMON: lets the queue stream. `least` is the size of a buffer for the present format.
+    ///
+    /// # Errors
+    /// EINVAL where the queue does not stream and has no buffer, and on CAPTURE also where
+    /// [`Queue::long_enough`] is false.
     pub fn streamon(&mut self, least: u32) -> Result<(), Errno>
         ensures answer { result ≡ answer_of (streamon_refusal self.old least) tt }
         ensures after { self.new ≡ after_of (streamon_refusal self.old least) self.old (streamon_after self.old) }
@@ -492,7 +535,8 @@ impl Queue {
         Ok(())
     }
 
-    /// Ends streaming: all buffers of ready and done are held again.
+    /// VIDIOC_STREAMOFF: ends streaming. The user holds all buffers of ready and done again, and the
+    /// sequence numbers begin anew. A buffer in the job stays there.
     pub fn streamoff(&mut self, hold: &mut Hold)
         requires fit { Fits self.old hold.old }
         ensures after { self.new ≡ streamoff_after self.old }
@@ -507,7 +551,11 @@ impl Queue {
         release(self.side, count, &mut self.cells, &mut self.payloads, hold);
     }
 
-    /// What is told of the buffer with the index.
+    /// VIDIOC_QUERYBUF: the length of the buffer with the index, and its flags, which are 0 where the
+    /// user holds it, QUEUED where it is ready or in the job, and DONE with its own flags where it is done.
+    ///
+    /// # Errors
+    /// EINVAL where the queue has no such buffer.
     pub fn querybuf(&self, index: u32) -> Result<Reply, Errno>
         ensures { result ≡ ok_or (querybuf_reply self.now index) Inval }
     {
@@ -540,7 +588,13 @@ impl Queue {
         }
     }
 
-    /// Moves the payload of a held buffer from the user to the end of ready.
+    /// VIDIOC_QBUF: moves the payload of a held buffer from the user to the end of ready. On OUTPUT the
+    /// buffer carries `used` and `stamp`; on CAPTURE both are ignored. `least` is the size of a buffer for
+    /// the present format.
+    ///
+    /// # Errors
+    /// EINVAL where the queue has no such buffer, the user does not hold it, it is shorter than `least`,
+    /// or on OUTPUT shorter than `used`. Then nothing changes.
     pub fn qbuf(
         &mut self,
         index: u32,
@@ -574,7 +628,7 @@ impl Queue {
         Ok(())
     }
 
-    /// Moves the front of ready into the job.
+    /// Moves the front of ready into the job, and hands out its payload. No buffer may be there before.
     pub fn lend(&mut self) -> Lent
         requires ready { self.old.ready ≢ [] }
         requires none_lent { self.old.job ≡ [] }
@@ -602,7 +656,8 @@ impl Queue {
         }
     }
 
-    /// Puts the lent buffer at the front of ready, with the cursor that it carries.
+    /// Puts the lent buffer at the front of ready, with the cursor that it carries. Its other fields stay
+    /// as the buffer was queued.
     pub fn give_back(&mut self, lent: Lent)
         requires one { self.old.job ≢ [] }
         requires whole { IsBack self.old.job lent }
@@ -628,7 +683,8 @@ impl Queue {
         };
     }
 
-    /// Puts the lent buffer at the end of done, with the next sequence number.
+    /// Puts the lent buffer at the end of done, with used bytes, flags and stamp as given, and the next
+    /// sequence number.
     pub fn retire(&mut self, lent: Lent, used: u32, flags: u32, stamp: Stamp)
         requires one { self.old.job ≢ [] }
         requires whole { IsBack self.old.job lent }
@@ -659,7 +715,12 @@ impl Queue {
         self.next_seq += 1;
     }
 
-    /// Moves the front of done to the user. `ended` says that the user took the LAST buffer.
+    /// VIDIOC_DQBUF: moves the front of done to the user. `ended` says that the user took the LAST buffer
+    /// of CAPTURE, and no further one follows.
+    ///
+    /// # Errors
+    /// EINVAL where the queue does not stream, else EPIPE where `ended`, else EAGAIN where no buffer is
+    /// done. Then nothing changes.
     pub fn dqbuf(&mut self, ended: bool, hold: &mut Hold) -> Result<Reply, Errno>
         requires fit { Fits self.old hold.old }
         ensures answer { result ≡ answer_of (dqbuf_refusal self.old ended) (front_taken self.old.done) }
@@ -699,3 +760,6 @@ impl Queue {
         })
     }
 }
+
+#[cfg(test)]
+mod tests;

@@ -1,0 +1,51 @@
+//! The fast form against the plain one at the edges of the range, and a block of one value.
+
+ghost use Rattle.std.specs.Prelude.{◌≤ℤ◌, neg_ℤ, pos};
+ghost use Rattle.vc_defs.specs.Quantiser.{AllBetween};
+
+use super::*;
+
+/// One of two numbers, in turn.
+fn in_turn(k: usize, even: i32, odd: i32) -> i32
+    requires even { (neg_ℤ (pos 255) ≤ℤ even) × (even ≤ℤ pos 255) }
+    requires odd { (neg_ℤ (pos 255) ≤ℤ odd) × (odd ≤ℤ pos 255) }
+    ensures { (neg_ℤ (pos 255) ≤ℤ result) × (result ≤ℤ pos 255) }
+{
+    if k % 2 == 0 { even } else { odd }
+}
+
+/// A block whose places have two numbers in turn.
+fn alternating(even: i32, odd: i32) -> [i32; 64]
+    requires even { (neg_ℤ (pos 255) ≤ℤ even) × (even ≤ℤ pos 255) }
+    requires odd { (neg_ℤ (pos 255) ≤ℤ odd) × (odd ≤ℤ pos 255) }
+    ensures samples { AllBetween (neg_ℤ (pos 255)) (pos 255) result }
+    ensures coefficients { AllBetween (neg_ℤ (pos 2097152)) (pos 2097152) result }
+{
+    let mut x = [0; 64];
+    for k in 0..64 {
+        x[k] = in_turn(k, even, odd);
+    }
+    x
+}
+
+/// Whether a transform gives what the plain calls give.
+fn is_plain<T: Transform>(t: &T, x: &[i32; 64]) -> bool
+    requires samples { AllBetween (neg_ℤ (pos 255)) (pos 255) x.now }
+    requires coefficients { AllBetween (neg_ℤ (pos 2097152)) (pos 2097152) x.now }
+{
+    t.forward(x) == forward_plain(x) && t.inverse(x) == inverse_plain(x)
+}
+
+#[test]
+fn both_forms_agree(rt: HostRuntime) {
+    for (even, odd, first) in [(255, 255, 16320), (-255, -255, -16320), (255, -255, 0)] {
+        assert!(rt; -255 <= even && even <= 255 && -255 <= odd && odd <= 255);
+        let x = alternating(even, odd);
+        assert!(rt; is_plain(&FastTransform, &x));
+        assert!(rt; is_plain(&PlainTransform, &x));
+        let coefficients = forward(&x);
+        assert_eq!(rt; coefficients[0], first);
+        assert_eq!(rt; inverse(&x), coefficients);
+    }
+    assert_eq!(rt; inverse(&alternating(255, 0))[0], 8160);
+}

@@ -1,0 +1,64 @@
+ghost use Rattle.std.specs.Prelude.{◌<◌, List, ℕ, Option, length, IfOk, OnOk, OnErr};
+ghost use Rattle.std.specs.Io.{ReadsAtMost, WritesAtMost};
+ghost use Rattle.std.specs.Io.KnownBytes.{Appends, ReadConsumes, WriteAppends};
+ghost use Rattle.vc_base.specs.Counts.{HasCause};
+ghost use Rattle.vc_io.specs.Written.{AppendsFront};
+
+use thiserror::Error;
+
+/// The source failed: its count of faults has risen.
+#[derive(Clone, Copy, Debug, Error)]
+#[error("read fault")]
+pub struct ReadFailed;
+
+/// The sink failed: its count of faults has risen.
+#[derive(Clone, Copy, Debug, Error)]
+#[error("write fault")]
+pub struct WriteFailed;
+
+/// Where bytes come from.
+pub trait Source {
+    /// The bytes that are left, where the source tells them.
+    ghost left: { Self → Option (List ℕ) };
+
+    /// How often it has failed. It never falls.
+    ghost faults: { Self → ℕ };
+
+    /// Puts the next bytes at the front of `buf`, and tells how many. None for a buffer that isn't
+    /// empty is the end. After a failure nothing was taken.
+    fn read(&mut self, buf: &mut [u8]) -> Result<usize, ReadFailed>
+        ensures bound { ReadsAtMost result buf.new }
+        ensures bytes { ReadConsumes (left self.old) (left self.new) result buf.new }
+        ensures cause { HasCause (faults self.old) (faults self.new) result };
+}
+
+/// Where bytes go.
+pub trait Sink {
+    /// The bytes that were written, where the sink tells them.
+    ghost written: { Self → Option (List ℕ) };
+
+    /// How often it has failed. It never falls.
+    ghost faults: { Self → ℕ };
+
+    /// Takes bytes from the front of the piece, at least one where there is one, and tells how many.
+    /// After a failure nothing was written.
+    fn write(&mut self, bytes: &[u8]) -> Result<usize, WriteFailed>
+        ensures bound { WritesAtMost result bytes.now }
+        ensures progress { IfOk result (λ n. 0 < length bytes.now → 0 < n) }
+        ensures bytes { WriteAppends (written self.old) (written self.new) result bytes.now }
+        ensures cause { HasCause (faults self.old) (faults self.new) result };
+}
+
+/// Writes the whole piece. After a failure some front of it was written.
+pub fn write_whole<K: Sink>(sink: &mut K, bytes: &[u8]) -> Result<(), WriteFailed>
+    ensures whole { OnOk result (Appends (K.written sink.old) (K.written sink.new) bytes.now) }
+    ensures front { OnErr result (AppendsFront (K.written sink.old) (K.written sink.new) bytes.now) }
+    ensures cause { HasCause (K.faults sink.old) (K.faults sink.new) result }
+{
+    let mut rest = bytes;
+    while !rest.is_empty() {
+        let count = sink.write(rest)?;
+        rest = &rest[count..];
+    }
+    Ok(())
+}

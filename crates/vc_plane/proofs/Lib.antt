@@ -1,0 +1,4 @@
+pub mod EntrySteps
+pub mod Ranges
+pub mod Shown
+pub mod Parsed
