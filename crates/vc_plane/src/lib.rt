@@ -34,3 +34,6 @@ pub struct Written {
     /// Whether the plane is stored raw, which its frame's header has to say.
     pub raw: bool,
 }
+
+#[cfg(test)]
+mod tests;

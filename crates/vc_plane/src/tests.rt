@@ -1,0 +1,94 @@
+//! Planes of docs/FORMAT.md's frames, raw planes, and what is written read back.
+
+ghost use Rattle.std.specs.Prelude.{◌≡◌};
+
+use super::*;
+use std::test::Fail;
+use vc_defs::Damaged;
+use vc_fwht::{FastTransform, PlainTransform, Transform};
+
+/// A frame of 16 by 16 samples.
+fn shape(inter: bool, qp: u32) -> Shape
+    ensures width { result.width ≡ 16 }
+    ensures height { result.height ≡ 16 }
+    ensures qp { result.qp ≡ qp }
+{
+    Shape {
+        width: 16,
+        height: 16,
+        inter,
+        qp,
+    }
+}
+
+/// What a plane is read as over a reference of samples 7, where it is legal and has all of the bytes.
+fn read_whole(body: &[u8], inter: bool, raw: bool) -> Option<[u8; 256]> {
+    let mut reference = [7; 256];
+    match read_plane(&FastTransform, body, 0, &shape(inter, 20), raw, &mut reference) {
+        Ok(end) if end == body.len() => Some(reference),
+        _ => None,
+    }
+}
+
+#[test]
+fn legal_planes_are_read(rt: HostRuntime) {
+    let mut long = [0; 130];
+    long[1] = 6;
+    let single = [0, 0, 0, 15, 0, 0, 0, 15, 0, 0, 0, 15, 0, 0, 0, 15];
+    assert_eq!(rt; read_whole(&[0, 6, 0, 15], false, false), Some([128; 256]));
+    assert_eq!(rt; read_whole(&[0, 6, 0, 15], true, false), Some([128; 256]));
+    assert_eq!(rt; read_whole(&[128, 6, 0, 15], true, false), Some([7; 256]));
+    assert_eq!(rt; read_whole(&[0, 6, 127, 0, 0, 15], false, false), Some([255; 256]));
+    assert_eq!(rt; read_whole(&long, false, false), Some([128; 256]));
+    assert_eq!(rt; read_whole(&single, false, false), Some([128; 256]));
+    assert_eq!(rt; read_whole(&[128; 256], false, true), Some([128; 256]));
+}
+
+#[test]
+fn illegal_planes_are_damaged(rt: HostRuntime) {
+    for head in [[0, 8, 0, 15], [128, 6, 0, 15], [0, 7, 0, 15], [32, 6, 0, 15], [0, 6, 0, 31]] {
+        assert_eq!(rt; read_whole(&head, false, false), None);
+    }
+    assert_eq!(rt; read_whole(&[0, 6, 0], false, false), None);
+    assert_eq!(rt; read_whole(&[128; 255], false, true), None);
+    let mut raw = [128; 256];
+    raw[200] = 255;
+    assert_eq!(rt; read_plane(&FastTransform, &raw, 0, &shape(false, 20), true, &mut [7; 256]), Err(Damaged));
+}
+
+/// Whether a plane, written over a reference of samples 100, is read back as the reference that writing left.
+fn is_read_back<T: Transform>(t: &T, plane: &[u8; 256], inter: bool, qp: u32) -> bool
+    requires { qp ≡ 5 }
+{
+    let shape = shape(inter, qp);
+    let mut left = [100; 256];
+    let mut back = [100; 256];
+    let mut out = [9; 300];
+    let written = write_plane(t, plane, &mut left, &shape, &mut out, 2);
+    let read = read_plane(t, &out, 2, &shape, written.raw, &mut back);
+    read == Ok(written.end) && left == back && out[0] == 9 && out[299] == 9
+}
+
+#[test]
+fn planes_are_written(rt: HostRuntime) -> Result<(), Fail> {
+    let mut reference = [7; 256];
+    let mut out = [9; 300];
+    let written = write_plane(&FastTransform, &[128; 256], &mut reference, &shape(false, 20), &mut out, 1);
+    assert_eq!(rt; written, Written { end: 5, raw: false });
+    assert!(rt; out.starts_with(&[9, 0, 6, 0, 15, 9]));
+    assert_eq!(rt; reference, [128; 256]);
+
+    let mut plane = [0; 256];
+    for k in 0..256 {
+        plane[k] = ((k * k * 37 + k * 101) % 256) as u8;
+    }
+    let written = write_plane(&PlainTransform, &plane, &mut reference, &shape(true, 1), &mut out, 1);
+    assert_eq!(rt; written, Written { end: 257, raw: true });
+    assert_eq!(rt; (out[1], out[2]), (plane[0], plane[1]));
+
+    for inter in [false, true] {
+        assert!(rt; is_read_back(&FastTransform, &plane, inter, 5));
+        assert!(rt; is_read_back(&PlainTransform, &[250; 256], inter, 5));
+    }
+    Ok(())
+}
