@@ -150,7 +150,11 @@ pub fn padded_sum(geometry: &Geometry) -> u32
     ensures samples { result ≡ padded_samples geometry.now.layout geometry.now.width geometry.now.height }
     ensures most { result ≤ 26542080 }
 {
-    let Geometry { width, height, layout } = *geometry;
+    let Geometry {
+        width,
+        height,
+        layout,
+    } = *geometry;
     let luma = padded_area(width, height);
     match layout {
         Layout::Grey => luma,
@@ -164,7 +168,11 @@ fn frame_room(layout: Layout, width: u32, height: u32) -> u32
     requires { IsSize width height }
     ensures { result ≡ frame_room layout width height }
 {
-    44 + padded_sum(&Geometry { width, height, layout })
+    44 + padded_sum(&Geometry {
+        width,
+        height,
+        layout,
+    })
 }
 
 /// The width nearest to what was asked that a picture of the layout can have.
@@ -243,7 +251,11 @@ fn size_or(size: u32, other: u32) -> u32
 fn encoder_formats(want: &Format) -> Formats
     ensures { pair_of result ≡ encoder_formats (listed_or (grey ∷ yu12 ∷ nv12 ∷ yuyv ∷ []) want.now.fourcc yu12) want.now.width want.now.height }
 {
-    let fourcc = if is_raw(want.fourcc) { want.fourcc } else { YU12 };
+    let fourcc = if is_raw(want.fourcc) {
+        want.fourcc
+    } else {
+        YU12
+    };
     let layout = layout_of(fourcc);
     let width = width_for(layout, want.width);
     let height = height_for(layout, want.height);
@@ -353,7 +365,11 @@ pub fn formats_found(present: &Formats, geometry: &Geometry) -> Formats
     requires { is_legal_geometry geometry.now ≡ true }
     ensures formats { pair_of result ≡ formats_found (pair_of present.now) geometry.now }
 {
-    let Geometry { width, height, layout } = *geometry;
+    let Geometry {
+        width,
+        height,
+        layout,
+    } = *geometry;
     let fourcc = raw_or_first(layout, present.cap.fourcc);
     Formats {
         out: coded_format(width, height, present.out.size),
