@@ -12,7 +12,7 @@ use Rattle.vc_base.specs.Buffers.{zero_stamp}
 use Rattle.vc_defs.specs.declared.Geometry.{Geometry}
 use Rattle.vc_defs.specs.Places.{places, look}
 use Rattle.vc_defs.specs.Decoder.{FrameResult, ResultKind, Picture, Damaged, Changed, GivenResult, DecoderState, fresh_decoder, DecodedStep, decode, geometry_after, moved_result, given_in, results}
-use Rattle.vc_defs.specs.Laws.{Resuming, IsReached, TellsNext, from_start, reached, state_at, given_after, AreOrdered, IsNextIfAny, IsKnownRight}
+use Rattle.vc_defs.specs.Laws.{Resuming, IsReached, TellsNext, from_start, present_at, state_at, given_after, AreOrdered, IsNextIfAny, IsKnownRight}
 use Rattle.vc_defs.proofs.ResultOrder.{results_are_ordered, results_stay, results_are_inside}
 use Rattle.vc_model.specs.Coder.{CodecState, decoder}
 use Rattle.vc_laws.specs.Segments.{SegmentResult, with_result, is_change_kind, is_change}
@@ -33,7 +33,7 @@ pub record IsStanding (limit : ℕ) (g : Option Geometry) (bytes : List ℕ) (st
   pub lengths : length stamps ≡ length bytes
   pub reaches : IsReached bytes limit g (length found)
   pub state : codec ≡ decoder (state_at bytes stamps limit g (length found))
-  pub present : geometry ≡ (reached bytes limit g (length found)).geometry
+  pub present : geometry ≡ (present_at bytes limit g (length found)).geometry
   pub what : map what_of found ≡ map result_of (take (length found) (from_start bytes limit g))
   pub all : given ≡ true → drop (length found) (from_start bytes limit g) ≡ []
   pub rest : filter is_picture (map result_of (drop (length found) (from_start bytes limit g))) ≡ []
@@ -102,13 +102,13 @@ same_stamp stamps stamp few many position l p =
 abbrev Resumed : ℕ → Option Geometry → List ℕ → List ℕ → List Stamp → Stamp → ℕ → List GivenResult → Type 0
 Resumed limit g bytes more stamps stamp n ds =
     let state = state_at bytes stamps limit g n in
-    let present = (reached bytes limit g n).geometry in
+    let present = (present_at bytes limit g n).geometry in
     let step = decode state present limit more stamp in
     let consumed = bytes ++ take step.moved more in
     TellsNext step (length bytes - length state.tail) bytes more (λ p. get_or (stamps ++ replicate (length more) stamp) p zero_stamp) ds
     × IsReached consumed limit g (given_after n ds)
     × (step.state ≡ state_at consumed (stamps ++ replicate step.moved stamp) limit g (given_after n ds))
-    × ((reached consumed limit g (given_after n ds)).geometry ≡ geometry_after step.given present)
+    × ((present_at consumed limit g (given_after n ds)).geometry ≡ geometry_after step.given present)
 
 -- the bytes by which the run moved the cursor
 abbrev pub moved_by : DecodedStep → List ℕ → Option FrameResult → List ℕ
@@ -127,11 +127,11 @@ end_length : {A : Type 0} → (xs : List A) (x : A) → length (xs ++ x ∷ []) 
 end_length xs x = let n = length-append xs (x ∷ []) in omega arith
 
 -- no result is left: the run used up the bytes
-none_more : (limit : ℕ) (g : Option Geometry) (bytes more : List ℕ) (stamps : List Stamp) (stamp : Stamp) (found : List SegmentResult) (fourcc : Fourcc) (given : Bool) (codec : CodecState) (geometry : Option Geometry) → IsStanding limit g bytes stamps found given codec geometry → drop (length found) (from_start (bytes ++ more) limit g) ≡ [] → Resumed limit g bytes more stamps stamp (length found) [] → let state = state_at bytes stamps limit g (length found) in let present = (reached bytes limit g (length found)).geometry in let step = decode state present limit more stamp in StandsAfter limit g bytes stamps found step more stamp fourcc (length bytes - length state.tail) present step.given
+none_more : (limit : ℕ) (g : Option Geometry) (bytes more : List ℕ) (stamps : List Stamp) (stamp : Stamp) (found : List SegmentResult) (fourcc : Fourcc) (given : Bool) (codec : CodecState) (geometry : Option Geometry) → IsStanding limit g bytes stamps found given codec geometry → drop (length found) (from_start (bytes ++ more) limit g) ≡ [] → Resumed limit g bytes more stamps stamp (length found) [] → let state = state_at bytes stamps limit g (length found) in let present = (present_at bytes limit g (length found)).geometry in let step = decode state present limit more stamp in StandsAfter limit g bytes stamps found step more stamp fourcc (length bytes - length state.tail) present step.given
 none_more limit g bytes more stamps stamp found fourcc given codec geometry h end r =
     let n = length found in
     let state = state_at bytes stamps limit g n in
-    let present = (reached bytes limit g n).geometry in
+    let present = (present_at bytes limit g n).geometry in
     let step = decode state present limit more stamp in
     let stay = results_stay limit g None bytes more in
     let moved : take step.moved more ≡ more = ap (λ k. take k more) r.0.1 ∙ take-length more in
@@ -144,7 +144,7 @@ none_more limit g bytes more stamps stamp found fourcc given codec geometry h en
       lengths = omega arith;
       reaches = subst (λ l. IsReached (bytes ++ l) limit g n) moved r.1;
       state = ap (λ s. decoder s) (r.2 ∙ (ap (λ l. state_at (bytes ++ l) (stamps ++ replicate step.moved stamp) limit g n) moved ∙ ap (λ k. state_at (bytes ++ more) (stamps ++ replicate k stamp) limit g n) r.0.1));
-      present = sym (ap (λ l. (reached (bytes ++ l) limit g n).geometry) (sym moved) ∙ (r.3 ∙ ap (λ o. geometry_after o present) r.0.0));
+      present = sym (ap (λ l. (present_at (bytes ++ l) limit g n).geometry) (sym moved) ∙ (r.3 ∙ ap (λ o. geometry_after o present) r.0.0));
       what = h.what ∙ ap (λ l. map result_of l) (sym same);
       all = λ e. end;
       rest = ap (λ l. filter is_picture (map result_of l)) end;
@@ -152,12 +152,12 @@ none_more limit g bytes more stamps stamp found fourcc given codec geometry h en
     })
 
 -- the run gives the next result
-one_more : (limit : ℕ) (g : Option Geometry) (bytes more : List ℕ) (stamps : List Stamp) (stamp : Stamp) (found : List SegmentResult) (fourcc : Fourcc) (given : Bool) (codec : CodecState) (geometry : Option Geometry) → IsStanding limit g bytes stamps found given codec geometry → (next : GivenResult) (later : List GivenResult) → drop (length found) (from_start (bytes ++ more) limit g) ≡ next ∷ later → Resumed limit g bytes more stamps stamp (length found) (next ∷ later) → (f : FrameResult) → let state = state_at bytes stamps limit g (length found) in let present = (reached bytes limit g (length found)).geometry in let step = decode state present limit more stamp in step.given ≡ Some f → moved_result (length bytes - length state.tail) f ≡ next.result → StandsAfter limit g bytes stamps found step more stamp fourcc (length bytes - length state.tail) present (Some f)
+one_more : (limit : ℕ) (g : Option Geometry) (bytes more : List ℕ) (stamps : List Stamp) (stamp : Stamp) (found : List SegmentResult) (fourcc : Fourcc) (given : Bool) (codec : CodecState) (geometry : Option Geometry) → IsStanding limit g bytes stamps found given codec geometry → (next : GivenResult) (later : List GivenResult) → drop (length found) (from_start (bytes ++ more) limit g) ≡ next ∷ later → Resumed limit g bytes more stamps stamp (length found) (next ∷ later) → (f : FrameResult) → let state = state_at bytes stamps limit g (length found) in let present = (present_at bytes limit g (length found)).geometry in let step = decode state present limit more stamp in step.given ≡ Some f → moved_result (length bytes - length state.tail) f ≡ next.result → StandsAfter limit g bytes stamps found step more stamp fourcc (length bytes - length state.tail) present (Some f)
 unfolding results
 one_more limit g bytes more stamps stamp found fourcc given codec geometry h next later front r f gave is =
     let n = length found in
     let state = state_at bytes stamps limit g n in
-    let present = (reached bytes limit g n).geometry in
+    let present = (present_at bytes limit g n).geometry in
     let step = decode state present limit more stamp in
     let from = length bytes - length state.tail in
     let x : SegmentResult = record { what = moved_result from f; stamp = step.stamp; fourcc = fourcc } in
@@ -196,7 +196,7 @@ one_more limit g bytes more stamps stamp found fourcc given codec geometry h nex
       lengths = omega arith;
       reaches = subst (λ m. IsReached new_bytes limit g m) (sym count) r.1;
       state = ap (λ s. decoder s) (r.2 ∙ (ap (λ k. state_at new_bytes (stamps ++ replicate k stamp) limit g (suc n)) (sym lm) ∙ ap (λ m. state_at new_bytes new_stamps limit g m) (sym count)));
-      present = sym (ap (λ m. (reached new_bytes limit g m).geometry) count ∙ (r.3 ∙ ap (λ o. geometry_after o present) gave));
+      present = sym (ap (λ m. (present_at new_bytes limit g m).geometry) count ∙ (r.3 ∙ ap (λ o. geometry_after o present) gave));
       what = map-append what_of found (x ∷ []) ∙ (ap (λ l. l ++ moved_result from f ∷ []) h.what ∙ (ap (λ y. map result_of (take n old) ++ y ∷ []) is ∙ (sym (map-append result_of (take n old) (next ∷ [])) ∙ (ap (λ l. map result_of l) (sym take_new) ∙ ap (λ m. map result_of (take m new)) (sym count)))));
       all = λ e. ap (λ m. drop m new) count ∙ (rest_is ∙ last.0 (no_change f.kind next.result.kind (ap (λ (y : FrameResult). y.kind) is) e));
       rest = ap (λ m. filter is_picture (map result_of (drop m new))) count ∙ (ap (λ l. filter is_picture (map result_of l)) rest_is ∙ last.1);
@@ -209,12 +209,12 @@ one_more limit g bytes more stamps stamp found fourcc given codec geometry h nex
     no_change (Changed g) other e c = absurd (false≢true c)
 
 -- the result of the run, given that it moved to the next one
-gave_next : (limit : ℕ) (g : Option Geometry) (bytes more : List ℕ) (stamps : List Stamp) (stamp : Stamp) (found : List SegmentResult) (fourcc : Fourcc) (given : Bool) (codec : CodecState) (geometry : Option Geometry) → IsStanding limit g bytes stamps found given codec geometry → (next : GivenResult) (later : List GivenResult) → drop (length found) (from_start (bytes ++ more) limit g) ≡ next ∷ later → Resumed limit g bytes more stamps stamp (length found) (next ∷ later) → let state = state_at bytes stamps limit g (length found) in let present = (reached bytes limit g (length found)).geometry in let step = decode state present limit more stamp in (o : Option FrameResult) → step.given ≡ o → option_map (moved_result (length bytes - length state.tail)) o ≡ Some next.result → StandsAfter limit g bytes stamps found step more stamp fourcc (length bytes - length state.tail) present o
+gave_next : (limit : ℕ) (g : Option Geometry) (bytes more : List ℕ) (stamps : List Stamp) (stamp : Stamp) (found : List SegmentResult) (fourcc : Fourcc) (given : Bool) (codec : CodecState) (geometry : Option Geometry) → IsStanding limit g bytes stamps found given codec geometry → (next : GivenResult) (later : List GivenResult) → drop (length found) (from_start (bytes ++ more) limit g) ≡ next ∷ later → Resumed limit g bytes more stamps stamp (length found) (next ∷ later) → let state = state_at bytes stamps limit g (length found) in let present = (present_at bytes limit g (length found)).geometry in let step = decode state present limit more stamp in (o : Option FrameResult) → step.given ≡ o → option_map (moved_result (length bytes - length state.tail)) o ≡ Some next.result → StandsAfter limit g bytes stamps found step more stamp fourcc (length bytes - length state.tail) present o
 gave_next limit g bytes more stamps stamp found fourcc given codec geometry h next later front r None gave is = absurd (cc)
 gave_next limit g bytes more stamps stamp found fourcc given codec geometry h next later front r (Some f) gave is =
     one_more limit g bytes more stamps stamp found fourcc given codec geometry h next later front r f gave (let q : moved_result (length bytes - length (state_at bytes stamps limit g (length found)).tail) f ≡ next.result = cc in q)
 
-by_next : (limit : ℕ) (g : Option Geometry) (bytes more : List ℕ) (stamps : List Stamp) (stamp : Stamp) (found : List SegmentResult) (fourcc : Fourcc) (given : Bool) (codec : CodecState) (geometry : Option Geometry) → IsStanding limit g bytes stamps found given codec geometry → (ds : List GivenResult) → drop (length found) (from_start (bytes ++ more) limit g) ≡ ds → Resumed limit g bytes more stamps stamp (length found) ds → let state = state_at bytes stamps limit g (length found) in let present = (reached bytes limit g (length found)).geometry in let step = decode state present limit more stamp in StandsAfter limit g bytes stamps found step more stamp fourcc (length bytes - length state.tail) present step.given
+by_next : (limit : ℕ) (g : Option Geometry) (bytes more : List ℕ) (stamps : List Stamp) (stamp : Stamp) (found : List SegmentResult) (fourcc : Fourcc) (given : Bool) (codec : CodecState) (geometry : Option Geometry) → IsStanding limit g bytes stamps found given codec geometry → (ds : List GivenResult) → drop (length found) (from_start (bytes ++ more) limit g) ≡ ds → Resumed limit g bytes more stamps stamp (length found) ds → let state = state_at bytes stamps limit g (length found) in let present = (present_at bytes limit g (length found)).geometry in let step = decode state present limit more stamp in StandsAfter limit g bytes stamps found step more stamp fourcc (length bytes - length state.tail) present step.given
 by_next limit g bytes more stamps stamp found fourcc given codec geometry h [] e r =
     none_more limit g bytes more stamps stamp found fourcc given codec geometry h e r
 by_next limit g bytes more stamps stamp found fourcc given codec geometry h (next ∷ later) e r =
@@ -225,7 +225,7 @@ pub stands_on : Resuming → (limit : ℕ) (g : Option Geometry) (bytes more : L
 stands_on resuming limit g bytes more stamps stamp found fourcc given geometry state h =
     let n = length found in
     let at = state_at bytes stamps limit g n in
-    let present = (reached bytes limit g n).geometry in
+    let present = (present_at bytes limit g n).geometry in
     let done = by_next limit g bytes more stamps stamp found fourcc given (decoder state) geometry h (drop n (from_start (bytes ++ more) limit g)) refl (resuming limit g bytes more stamps stamp n h.lengths h.reaches) in
     let same : at ≡ state = sym (let q : decoder state ≡ decoder at = h.state in let p : state ≡ at = cc in p) in
     subst (λ p. let step = decode state p limit more stamp in StandsAfter limit g bytes stamps found step more stamp fourcc (length bytes - length state.tail) p step.given) (sym h.present) (subst (λ s. let step = decode s present limit more stamp in StandsAfter limit g bytes stamps found step more stamp fourcc (length bytes - length s.tail) present step.given) same done)
