@@ -1,62 +1,48 @@
 -- No number that counts up in a context is above the number of steps.
-use Rattle.std.proofs.Common.{ℕ, ◌≡◌, ◌≤◌, ◌+◌, ◌==◌, nat_lt, nat_le, Bool, true, false, not, cond, ◌&&◌, ◌||◌, is_none, is_some, Option, Some, None, List, [], ◌∷◌, ◌++◌, length, refl, sym, ap, ◌∙◌, subst, arith}
-use Rattle.std.specs.List.{list_all}
-use Rattle.std.proofs.lemmas.Bool.{ltb-false, le-leb, false≢true, or_parts}
-use Rattle.std.proofs.lemmas.List.Folds.{list_all-append}
+use Rattle.std.proofs.Common.{ℕ, ◌≡◌, ◌≤◌, ◌+◌, ◌==◌, Bool, true, false, not, cond, ◌&&◌, is_none, is_some, Option, Some, None, List, [], ◌∷◌, length, refl, sym, ap, ◌∙◌, subst, arith}
+use Rattle.std.proofs.lemmas.Bool.{false≢true}
 use Rattle.vc_base.specs.declared.Stamp.{Stamp}
 use Rattle.vc_base.specs.declared.Side.{Side}
 use Rattle.vc_base.specs.declared.Side.TheVariants.{Out, Cap}
 use Rattle.vc_base.specs.declared.Kind.{Kind}
 use Rattle.vc_base.specs.declared.Kind.TheVariants.{Copy, Enc, Dec}
 use Rattle.vc_base.specs.declared.Fourcc.{Fourcc}
-use Rattle.vc_base.specs.declared.Format.{Format}
 use Rattle.vc_base.specs.declared.Errno.{Errno}
 use Rattle.vc_base.specs.declared.Errno.TheVariants.{NoEnt, Again, NoMem, Busy, Inval, NoTty, Pipe}
 use Rattle.vc_base.specs.declared.Call.{Call}
 use Rattle.vc_base.specs.declared.Call.TheVariants.{Open, Close, EnumFmt, GetFmt, TryFmt, SetFmt, ReqBufs, CreateBufs, QueryBuf, QBuf, DqBuf, StreamOn, StreamOff, Subscribe, Unsubscribe, DqEvent, DecCmd, EncCmd, GetCtrl, SetCtrl, Poll}
 use Rattle.vc_base.specs.declared.Reply.{Reply}
 use Rattle.vc_base.specs.declared.Reply.TheVariants.{Done, Created, Blocked}
-use Rattle.vc_base.specs.Buffers.{Buffer, QueueState, buffer_count, is_empty, is_out, refuse_if, with_index, queued_buffer, queue_held, held_refusal, take_front, long_enough, reqbufs_after, create_refusal, create_after, created, qbuf_after, dqbuf_after, streamon_refusal, streamon_after, streamoff_after, dqbuf_refusal}
+use Rattle.vc_base.specs.Buffers.{Buffer, QueueState, buffer_count, is_empty, refuse_if, with_index, queued_buffer, queue_held, held_refusal, take_front, long_enough, reqbufs_after, create_refusal, create_after, created, qbuf_after, dqbuf_after, streamon_refusal, streamon_after, streamoff_after, dqbuf_refusal}
 use Rattle.vc_base.specs.Events.{EventState}
 use Rattle.vc_model.specs.Formats.{FormatPair}
 use Rattle.vc_model.specs.Coder.{CodecState, reset}
 use Rattle.vc_defs.specs.Encoder.{RunRates}
 use Rattle.vc_model.specs.Context.{Context, Slot, Running, Cause, drain, change, PhaseState, run, owe, last, stopped, fresh_context, queue_of, with_queue, is_run, sizeimage, is_dec, is_enc, is_drained}
-use Rattle.vc_model.specs.Answer.{Answer, unchanged, refused, answered, unless, if_found, unless_or_block, desc_answer, set_refusal, set_answer, after_new_format, reqbufs_answer, after_new_buffers, create_answer, query_answer, qbuf_answer, is_part_of_picture, taken_answer, stop_at_last, is_ended, streamon_answer, streamoff_effect, without_drain_stop, after_output_off, mark_after_restart, after_capture_off, both_stream, is_stopped_by_drain, stop_answer, start_is_early, start_answer, command_answer, value_answer, control_answer, context_answer, closed_answer, answer}
-use Rattle.vc_model.specs.Sound.{HasItsBuffers, stops_by_change, IsSoundButUnsettled, IsOrderedSlot}
-use Rattle.vc_model.proofs.Tests.{and_left}
+use Rattle.vc_model.specs.Answer.{Answer, unchanged, refused, answered, unless, if_found, unless_or_block, desc_answer, set_refusal, after_new_format, after_new_buffers, query_answer, is_part_of_picture, taken_answer, stop_at_last, is_ended, streamoff_effect, without_drain_stop, after_output_off, mark_after_restart, after_capture_off, both_stream, is_stopped_by_drain, stop_answer, start_is_early, start_answer, command_answer, value_answer, control_answer, context_answer, closed_answer, answer}
+use Rattle.vc_model.specs.Sound.{HasItsBuffers, IsSoundButUnsettled, IsOrderedSlot}
 use Rattle.std.specs.Prelude.{min, slice_get}
-use Rattle.std.specs.List.{list_any}
-use Rattle.std.proofs.Common.{map, length-append}
-use Rattle.std.proofs.lemmas.Slice.Eq.{bytes_eq-Decides}
+use Rattle.std.proofs.Common.{length-append}
 use Rattle.vc_base.specs.declared.Reply.TheVariants.{Fmt, Count}
-use Rattle.vc_base.specs.Buffers.{most_buffers, held_again, new_buffers, lend_front, lend_after, retire_from, retire_after, give_back_from, give_back_after, known_bytes, last_flag, error_flag, zero_stamp, reqbufs_refusal, querybuf_reply}
+use Rattle.vc_base.specs.Buffers.{most_buffers, lend_front, lend_after, retire_from, retire_after, give_back_from, give_back_after, last_flag, error_flag, zero_stamp, reqbufs_refusal, querybuf_reply}
 use Rattle.vc_base.specs.Events.{event_refusal, event_reply, raise_after, source_change_event, subscribe_after, unsubscribe_after, take_event_after}
-use Rattle.vc_defs.specs.declared.Layout.{Layout}
-use Rattle.vc_defs.specs.declared.Layout.TheVariants.{Grey, C420, C422}
 use Rattle.vc_defs.specs.declared.Geometry.{Geometry}
-use Rattle.vc_defs.specs.Raw.{grey, yu12, nv12, yuyv, same_fourcc, layout_of, raw_formats, first_raw}
-use Rattle.vc_defs.specs.Decoder.{DecodedStep, DecodedResult, picture, damaged, changed, spent, step_outcome}
-use Rattle.vc_model.specs.Formats.{formats_at_open, formats_listed, formats_for, formats_found}
+use Rattle.vc_defs.specs.Decoder.{DecodedResult, picture, damaged, changed, spent, step_outcome}
+use Rattle.vc_model.specs.Formats.{formats_listed, formats_for, formats_found}
 use Rattle.vc_model.specs.Coder.{Coder, encoder, decoder}
 use Rattle.vc_model.specs.Context.{RunSort, copy, encode, decode, probe, format_of, raise_end, settle, settle_drain, settle_last, give_last}
 use Rattle.vc_model.specs.Answer.{control_of, with_control}
-use Rattle.vc_model.specs.Runs.{is_claimable, sort_of, cap_after_claim, running_of, claim_front, after_claim, source_of, JobData, job_data, RunResult, copied, encoded, decoded, run_result, source_done, source_back, source_moved, dest_done, dest_back, decoded_effect, run_effect, fault_effect, type_flag, after_finish}
-use Rattle.vc_model.specs.Solo.{SoloEvent, Called, Claims, Finishes, solo_step, solo_slot, claim_step, solo_finish, finish_step}
-use Rattle.vc_model.specs.Sound.{dest_count, IsOrderedSlot, HasFormats, HasGeometry, has_dest, HasRun, AreShort, IsFit, IsSoundSlot}
-use Rattle.vc_model.specs.Soundness.{Soundness}
-use Rattle.vc_model.proofs.Tests.{and_right, and_both}
-use Rattle.vc_model.proofs.Queues.{find_index, length_without, length_new, length_back}
-use Rattle.vc_model.proofs.Answering.{refused_split, restart_change}
-use Rattle.vc_model.proofs.Ending.{run_fits, HasResult, step_sound, always_ordered}
+use Rattle.vc_model.specs.Runs.{sort_of, cap_after_claim, claim_front, after_claim, JobData, job_data, RunResult, copied, encoded, decoded, run_result, source_done, source_back, source_moved, dest_done, dest_back, decoded_effect, run_effect, fault_effect, type_flag, after_finish}
+use Rattle.vc_model.specs.Solo.{solo_slot}
+use Rattle.vc_model.specs.Sound.{IsOrderedSlot}
+use Rattle.vc_model.proofs.Ending.{always_ordered}
 use Rattle.std.proofs.Common.{◌<◌, eqb, ltb, get_or, set, get_or-set_same, get_or-set_other}
-use Rattle.std.specs.Prelude.{replicate}
 use Rattle.std.proofs.lemmas.Bool.{eqb-true, eqb-false, ltb-true}
 use Rattle.vc_base.specs.Device.{DeviceEvent, call, claim, finish, shut}
-use Rattle.vc_base.specs.Events.{is_subscribed, eos_event, with_event, Event}
+use Rattle.vc_base.specs.Events.{is_subscribed, eos_event, with_event}
 use Rattle.vc_model.specs.Context.{is_run}
-use Rattle.vc_model.specs.Sound.{is_last, IsSettled, last_not_given}
-use Rattle.vc_model.specs.Devices.{DeviceState, DeviceStep, new_device, slot_of, job_of, with_slot, steps_of, ignored, call_answered, claim_slot, claim_first, finish_of, finish_slot, finish_job, device_step, device_after}
+use Rattle.vc_model.specs.Sound.{IsSettled, last_not_given}
+use Rattle.vc_model.specs.Devices.{DeviceState, new_device, slot_of, job_of, with_slot, steps_of, ignored, call_answered, claim_slot, claim_first, finish_of, finish_slot, finish_job, device_step, device_after}
 use Rattle.vc_model.specs.Counters.{IsCounted, CountersAreSteps}
 use Rattle.vc_model.specs.Answer.{after_taking}
 use Rattle.vc_model.specs.Devices.{projection}
