@@ -35,16 +35,33 @@ fn differences_of(block: &[u8; 64], reference: &[u8; 64], inter: bool) -> [i32; 
 }
 
 /// The values of a block that is coded with this type.
-fn values_of<T: Transform>(t: &T, block: &[u8; 64], reference: &[u8; 64], inter: bool, qp: u32) -> [i32; 64]
+fn values_of<T: Transform>(
+    t: &T,
+    block: &[u8; 64],
+    reference: &[u8; 64],
+    inter: bool,
+    qp: u32,
+) -> [i32; 64]
     requires qp { (1 ≤ qp) × (qp ≤ 31) }
     ensures coded { block_with inter result ≡ coded_as inter qp block.now reference.now }
     ensures range { AreValues result }
 {
-    quantise(&t.forward(&differences_of(block, reference, inter)), !inter, qp)
+    quantise(
+        &t.forward(&differences_of(block, reference, inter)),
+        !inter,
+        qp,
+    )
 }
 
 /// Codes a block of a plane: gives whether it is a P block, and its values in `q`.
-pub(crate) fn code_block<T: Transform>(t: &T, plane: &[u8], reference: &[u8], shape: &Shape, number: usize, q: &mut [i32; 64]) -> bool
+pub(crate) fn code_block<T: Transform>(
+    t: &T,
+    plane: &[u8],
+    reference: &[u8],
+    shape: &Shape,
+    number: usize,
+    q: &mut [i32; 64],
+) -> bool
     requires plane { length plane.now ≡ shape.now.width * shape.now.height }
     requires reference { length reference.now ≡ shape.now.width * shape.now.height }
     requires some { (0 < shape.now.width) × (0 < shape.now.height) }

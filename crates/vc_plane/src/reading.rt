@@ -20,7 +20,13 @@ pub(crate) fn block_count(shape: &Shape) -> usize
 }
 
 /// Reads the entries of a coded plane.
-fn read_coded<T: Transform>(t: &T, body: &[u8], at: usize, shape: &Shape, reference: &mut [u8]) -> Result<usize, Damaged>
+fn read_coded<T: Transform>(
+    t: &T,
+    body: &[u8],
+    at: usize,
+    shape: &Shape,
+    reference: &mut [u8],
+) -> Result<usize, Damaged>
     requires place { at ≤ length body.now }
     requires size { length reference.old ≡ shape.now.width * shape.now.height }
     requires some { (0 < shape.now.width) × (0 < shape.now.height) }
@@ -73,7 +79,14 @@ fn read_raw(body: &[u8], at: usize, shape: &Shape, reference: &mut [u8]) -> Resu
 /// The answer is [`Damaged`] exactly where no legal plane stands at the front of these bytes: a head has a bit that
 /// means nothing, or is of a P block in an I frame, or stands for more blocks than are left; words spell no block; a
 /// byte of a raw plane is 255; or the bytes end. Then nothing is said of the samples of the reference.
-pub fn read_plane<T: Transform>(t: &T, body: &[u8], at: usize, shape: &Shape, raw: bool, reference: &mut [u8]) -> Result<usize, Damaged>
+pub fn read_plane<T: Transform>(
+    t: &T,
+    body: &[u8],
+    at: usize,
+    shape: &Shape,
+    raw: bool,
+    reference: &mut [u8],
+) -> Result<usize, Damaged>
     requires place { at ≤ length body.now }
     requires size { length reference.old ≡ shape.now.width * shape.now.height }
     requires some { (0 < shape.now.width) × (0 < shape.now.height) }

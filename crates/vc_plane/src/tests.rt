@@ -24,7 +24,14 @@ fn shape(inter: bool, qp: u32) -> Shape
 /// What a plane is read as over a reference of samples 7, where it is legal and has all of the bytes.
 fn read_whole(body: &[u8], inter: bool, raw: bool) -> Option<[u8; 256]> {
     let mut reference = [7; 256];
-    match read_plane(&FastTransform, body, 0, &shape(inter, 20), raw, &mut reference) {
+    match read_plane(
+        &FastTransform,
+        body,
+        0,
+        &shape(inter, 20),
+        raw,
+        &mut reference,
+    ) {
         Ok(end) if end == body.len() => Some(reference),
         _ => None,
     }
@@ -38,7 +45,10 @@ fn legal_planes_are_read(rt: HostRuntime) {
     assert_eq!(rt; read_whole(&[0, 6, 0, 15], false, false), Some([128; 256]));
     assert_eq!(rt; read_whole(&[0, 6, 0, 15], true, false), Some([128; 256]));
     assert_eq!(rt; read_whole(&[128, 6, 0, 15], true, false), Some([7; 256]));
-    assert_eq!(rt; read_whole(&[0, 6, 127, 0, 0, 15], false, false), Some([255; 256]));
+    assert_eq!(rt;
+        read_whole(&[0, 6, 127, 0, 0, 15], false, false),
+        Some([255; 256])
+    );
     assert_eq!(rt; read_whole(&long, false, false), Some([128; 256]));
     assert_eq!(rt; read_whole(&single, false, false), Some([128; 256]));
     assert_eq!(rt; read_whole(&[128; 256], false, true), Some([128; 256]));
@@ -46,14 +56,30 @@ fn legal_planes_are_read(rt: HostRuntime) {
 
 #[test]
 fn illegal_planes_are_damaged(rt: HostRuntime) {
-    for head in [[0, 8, 0, 15], [128, 6, 0, 15], [0, 7, 0, 15], [32, 6, 0, 15], [0, 6, 0, 31]] {
+    for head in [
+        [0, 8, 0, 15],
+        [128, 6, 0, 15],
+        [0, 7, 0, 15],
+        [32, 6, 0, 15],
+        [0, 6, 0, 31],
+    ] {
         assert_eq!(rt; read_whole(&head, false, false), None);
     }
     assert_eq!(rt; read_whole(&[0, 6, 0], false, false), None);
     assert_eq!(rt; read_whole(&[128; 255], false, true), None);
     let mut raw = [128; 256];
     raw[200] = 255;
-    assert_eq!(rt; read_plane(&FastTransform, &raw, 0, &shape(false, 20), true, &mut [7; 256]), Err(Damaged));
+    assert_eq!(rt;
+        read_plane(
+            &FastTransform,
+            &raw,
+            0,
+            &shape(false, 20),
+            true,
+            &mut [7; 256]
+        ),
+        Err(Damaged)
+    );
 }
 
 /// Whether a plane, written over a reference of samples 100, is read back as the reference that writing left.
@@ -73,7 +99,14 @@ fn is_read_back<T: Transform>(t: &T, plane: &[u8; 256], inter: bool, qp: u32) ->
 fn planes_are_written(rt: HostRuntime) -> Result<(), Fail> {
     let mut reference = [7; 256];
     let mut out = [9; 300];
-    let written = write_plane(&FastTransform, &[128; 256], &mut reference, &shape(false, 20), &mut out, 1);
+    let written = write_plane(
+        &FastTransform,
+        &[128; 256],
+        &mut reference,
+        &shape(false, 20),
+        &mut out,
+        1,
+    );
     assert_eq!(rt; written, Written { end: 5, raw: false });
     assert!(rt; out.starts_with(&[9, 0, 6, 0, 15, 9]));
     assert_eq!(rt; reference, [128; 256]);
@@ -82,8 +115,21 @@ fn planes_are_written(rt: HostRuntime) -> Result<(), Fail> {
     for k in 0..256 {
         plane[k] = ((k * k * 37 + k * 101) % 256) as u8;
     }
-    let written = write_plane(&PlainTransform, &plane, &mut reference, &shape(true, 1), &mut out, 1);
-    assert_eq!(rt; written, Written { end: 257, raw: true });
+    let written = write_plane(
+        &PlainTransform,
+        &plane,
+        &mut reference,
+        &shape(true, 1),
+        &mut out,
+        1,
+    );
+    assert_eq!(rt;
+        written,
+        Written {
+            end: 257,
+            raw: true
+        }
+    );
     assert_eq!(rt; (out[1], out[2]), (plane[0], plane[1]));
 
     for inter in [false, true] {

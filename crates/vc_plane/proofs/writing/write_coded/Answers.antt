@@ -1,8 +1,6 @@
-use Rattle.std.proofs.Common.{◌≡◌, ◌∙◌, sym, ap, subst, ℕ, ◌<◌, ◌≤◌, ◌+◌, List, [], length, get_or, arith}
-use Rattle.std.specs.Prelude.{false}
-use Rattle.vc_defs.specs.Planes.{Block, block_count, coded_blocks, decoded_plane}
+use Rattle.std.proofs.Common.{◌≡◌, ◌∙◌, subst, ℕ, ◌<◌, [], arith}
+use Rattle.vc_defs.specs.Planes.{block_count, coded_blocks, decoded_plane}
 use Rattle.vc_plane.specs.Entries.{block_with}
-use Rattle.vc_plane.specs.Writing.{IsBlockAdded}
 use Rattle.vc_plane.proofs.Shown.{AreDecoded, none_decoded, all_decoded}
 use Rattle.vc_plane.proofs.Coded.{length-coded_blocks, block_coded, first_coded, more_coded, not_coded, all_coded, count_some, on_ok}
 use Rattle.vc_plane.proofs.writing.write_coded.Goals as goal
