@@ -163,3 +163,8 @@ next_decoded blocks old now new width height next y values inter w h inside bloc
         ∙ ap (λ b. get_or (samples_of b (block_of old width height next)) (place_in_block width j) 0) (sym block)
         ∙ ap (λ n. get_or (samples_of (get_or blocks n (block_with false [])) (block_of old width height n)) (place_in_block width j) 0) (sym e)
     by_place j hj p (inr ne) = let lt : block_number width j < next = omega arith in shown.before j lt ∙ so_far.decoded j hj lt
+
+-- The samples of an I block don't depend on the reference.
+pub intra_samples : (y : List ℤ) (a b : List ℕ) → samples_from y false a ≡ samples_from y false b
+unfolding samples_from
+intra_samples y a b = refl

@@ -8,13 +8,13 @@ ghost use Rattle.vc_defs.specs.Planes.{Block, padded, same_block, canon_entry, e
 ghost use Rattle.vc_plane.specs.Entries.{block_with};
 ghost use Rattle.vc_plane.specs.Writing.{IsBlockAdded, IsPlaneWritten, pending_bytes};
 
-use crate::blocks::{restored, show_blocks};
+use byteorder::{BigEndian, ByteOrder};
+use crate::blocks::show_blocks;
 use crate::coding::code_block;
 use crate::entries::head;
 use crate::raw::{cap_samples, put_plane};
 use crate::reading::block_count;
 use crate::{Shape, Written};
-use byteorder::{BigEndian, ByteOrder};
 use vc_defs::Full;
 use vc_fwht::Transform;
 use vc_rlc::write_block;
@@ -93,13 +93,7 @@ fn add_block(out: &mut [u8], pending: &mut Pending, inter: bool, q: &[i32; 64]) 
 }
 
 /// Writes the entries of a plane, and shows its blocks in the reference.
-fn write_coded<T: Transform>(
-    t: &T,
-    plane: &[u8],
-    reference: &mut [u8],
-    shape: &Shape,
-    out: &mut [u8],
-) -> Result<usize, Full>
+fn write_coded<T: Transform>(t: &T, plane: &[u8], reference: &mut [u8], shape: &Shape, out: &mut [u8]) -> Result<usize, Full>
     requires plane { length plane.now ≡ shape.now.width * shape.now.height }
     requires size { length reference.old ≡ shape.now.width * shape.now.height }
     requires some { (0 < shape.now.width) × (0 < shape.now.height) }
@@ -109,7 +103,7 @@ fn write_coded<T: Transform>(
 {
     let mut q = [0; 64];
     let inter = code_block(t, plane, reference, shape, 0, &mut q);
-    show_blocks(&restored(t, &q, inter), shape, inter, reference, 0, 1);
+    show_blocks(t, &q, shape, inter, reference, 0, 1);
     let mut pending = Pending {
         inter,
         values: q,
@@ -122,14 +116,7 @@ fn write_coded<T: Transform>(
             Ok(()) => {},
             Err(full) => return Err(full),
         }
-        show_blocks(
-            &restored(t, &q, inter),
-            shape,
-            inter,
-            reference,
-            number,
-            number + 1,
-        );
+        show_blocks(t, &q, shape, inter, reference, number, number + 1);
     }
     put_entry(out, &pending)
 }
@@ -141,14 +128,7 @@ fn write_coded<T: Transform>(
 /// encoder", with the shape's `qp` of 1 to 31. The plane is stored raw exactly where its words take more bytes than
 /// the padded plane has samples, with 254 in place of 255. The reference becomes what a decoder will have. No other
 /// byte of the output changes.
-pub fn write_plane<T: Transform>(
-    t: &T,
-    plane: &[u8],
-    reference: &mut [u8],
-    shape: &Shape,
-    out: &mut [u8],
-    at: usize,
-) -> Written
+pub fn write_plane<T: Transform>(t: &T, plane: &[u8], reference: &mut [u8], shape: &Shape, out: &mut [u8], at: usize) -> Written
     requires plane { length plane.now ≡ shape.now.width * shape.now.height }
     requires size { length reference.old ≡ shape.now.width * shape.now.height }
     requires some { (0 < shape.now.width) × (0 < shape.now.height) }
