@@ -1,16 +1,15 @@
 -- Reading an entry is one step of reading the blocks of a plane.
-use Rattle.std.proofs.Common.{◌≡◌, ◌∙◌, sym, ap, refl, ℕ, suc, zero, ◌+◌, ◌*◌, ◌-◌, ◌<◌, ◌≤◌, List, [], ◌∷◌, ◌++◌, length, take, drop, get_or, replicate, arith, length-drop, subst}
+use Rattle.std.proofs.Common.{◌≡◌, ◌∙◌, sym, ap, refl, ℕ, suc, zero, ◌+◌, ◌*◌, ◌-◌, ◌<◌, ◌≤◌, List, [], ◌∷◌, length, take, drop, get_or, replicate, arith, length-drop, subst}
 use Rattle.std.specs.Prelude.{ℤ, Bool, true, false, ◌&&◌, ◌||◌, not, nat_eq, nat_lt}
 use mir.Val.{Fits}
 use mir.Syntax.{w8}
-use Rattle.std.specs.List.{All}
 use Rattle.std.specs.declared.option.Option.{Option}
 use Rattle.std.specs.declared.option.Option.TheVariants.{Some, None}
 use Rattle.std.proofs.lemmas.Bool.{cond-true, cond-false, and_parts}
 use Rattle.std.proofs.lemmas.Bool.Decides.{nat_tests}
 use Rattle.std.proofs.lemmas.List.{drop_more, take_at}
 use Rattle.std.proofs.lemmas.List.Elements.{All-tail, All-from_get_or}
-use Rattle.vc_defs.specs.Words.{Words, words_bytes, word_of, values_from, BlockBetween, in_scan_order, from_scan_order}
+use Rattle.vc_defs.specs.Words.{words_bytes, word_of, values_from, BlockBetween, in_scan_order, from_scan_order}
 use Rattle.vc_defs.specs.Planes.{Block, head_of, inter_of, repeats_of, is_head, blocks_behind, after_head, blocks_from}
 use Rattle.vc_defs.specs.Laws.{AreBytes}
 use Rattle.vc_defs.proofs.Scan.{from_in_scan_order}

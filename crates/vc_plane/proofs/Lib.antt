@@ -7,3 +7,5 @@ pub mod Sums
 pub mod WritingSteps
 pub mod Coded
 pub mod WrittenPlanes
+pub mod Flat
+pub mod Unchanged

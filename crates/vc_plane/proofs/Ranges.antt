@@ -1,6 +1,6 @@
 -- How large what a transform gives can be.
 use Rattle.std.proofs.Common.{◌≡◌, ◌∙◌, ap, inl, inr, ℕ, ◌*◌, ◌+◌, ◌/◌, ◌%◌, ◌<◌, List, length, get_or, arith}
-use Rattle.std.specs.Prelude.{ℤ, pos, neg_ℤ, ◌≤ℤ◌, ◌*ℤ◌, ◌^◌, Bool}
+use Rattle.std.specs.Prelude.{ℤ, pos, neg_ℤ, ◌*ℤ◌, ◌^◌, Bool}
 use Rattle.std.proofs.lemmas.Int.{ints}
 use Rattle.vc_defs.specs.Walsh.{sum_below, walsh, entry_at, coefficient, transformed}
 use Rattle.vc_defs.specs.Quantiser.{AllBetween, dequantised, shift_at}

@@ -6,7 +6,7 @@ use Rattle.std.specs.List.{range_with_len}
 use Rattle.std.proofs.lemmas.Nat.{mod-mul-add, div-mul-add, div-add-mod'}
 use Rattle.std.proofs.Math.Nat.{mod-lt, div-lt_iff_lt-mul}
 use Rattle.std.proofs.lemmas.Bool.{cases_eq}
-use Rattle.std.proofs.lemmas.List.{ext_get_or, get_or-map, length-map, get_or_append_left, get_or-append_right, get_or-replicate, length-replicate}
+use Rattle.std.proofs.lemmas.List.{get_or-map, get_or_append_left, get_or-append_right, get_or-replicate}
 use Rattle.std.proofs.lemmas.List.FromFn.{length-range_with_len, get_or-range_with_len}
 use Rattle.vc_defs.specs.Walsh.{transformed}
 use Rattle.vc_defs.specs.Quantiser.{dequantised}
@@ -163,3 +163,8 @@ next_decoded blocks old now new width height next y values inter w h inside bloc
         ∙ ap (λ b. get_or (samples_of b (block_of old width height next)) (place_in_block width j) 0) (sym block)
         ∙ ap (λ n. get_or (samples_of (get_or blocks n (block_with false [])) (block_of old width height n)) (place_in_block width j) 0) (sym e)
     by_place j hj p (inr ne) = let lt : block_number width j < next = omega arith in shown.before j lt ∙ so_far.decoded j hj lt
+
+-- The samples of an I block don't depend on the reference.
+pub intra_samples : (y : List ℤ) (a b : List ℕ) → samples_from y false a ≡ samples_from y false b
+unfolding samples_from
+intra_samples y a b = refl

@@ -1,9 +1,9 @@
 -- Writing the entries of a plane, by what is left to write.
-use Rattle.std.proofs.Common.{◌≡◌, ◌∙◌, sym, ap, refl, subst, ℕ, suc, zero, ◌+◌, ◌-◌, ◌<◌, ◌≤◌, List, [], ◌∷◌, ◌++◌, length, take, drop, get_or, map, arith, inl, inr, append_assoc, length-append, length-drop, length-take}
-use Rattle.std.specs.Prelude.{ℤ, pos, negsuc, Bool, true, false, ◌&&◌, not, nat_eq, nat_lt, cond, Result, Ok, Err}
+use Rattle.std.proofs.Common.{◌≡◌, ◌∙◌, sym, ap, refl, subst, ℕ, ◌+◌, ◌<◌, List, [], ◌∷◌, ◌++◌, length, drop, get_or, arith, length-append}
+use Rattle.std.specs.Prelude.{ℤ, pos, negsuc, Bool, true, false, ◌&&◌, not, nat_eq, nat_lt, cond, Ok, Err}
 use Rattle.vc_defs.specs.declared.Full.{Full}
-use Rattle.vc_defs.specs.Bytes.{Writes, written_at}
-use Rattle.vc_defs.proofs.Bytes.{writes_then, writes_not}
+use Rattle.vc_defs.specs.Bytes.{Writes}
+use Rattle.vc_defs.proofs.Bytes.{writes_then}
 use Rattle.std.proofs.Common.{int_eq}
 use Rattle.std.specs.Cmp.Lexicographic.{pointwise}
 use mathlib.Core.Bool.{beq}

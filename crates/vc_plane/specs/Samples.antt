@@ -1,5 +1,5 @@
 -- The samples that blocks show.
-use Rattle.std.specs.Prelude.{◌≡◌, ℕ, ◌+◌, ◌*◌, ◌<◌, ◌≤◌, List, get_or, map, ℤ, pos, ◌+ℤ◌, Bool}
+use Rattle.std.specs.Prelude.{◌≡◌, ℕ, ◌*◌, ◌<◌, ◌≤◌, List, get_or, map, ℤ, pos, ◌+ℤ◌, Bool}
 use Rattle.std.specs.List.{range_with_len}
 use Rattle.std.specs.Int.{int_shr}
 use Rattle.vc_defs.specs.Planes.{clamped, base_of, block_of}

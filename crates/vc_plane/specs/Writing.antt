@@ -1,8 +1,8 @@
 -- What writing a plane leaves.
-use Rattle.std.specs.Prelude.{◌≡◌, ℕ, ◌+◌, ◌*◌, ◌≤◌, List, ◌∷◌, ℤ, Bool, length, Result}
+use Rattle.std.specs.Prelude.{◌≡◌, ℕ, ◌+◌, ◌≤◌, List, ◌∷◌, ℤ, Bool, length, Result}
 use Rattle.vc_defs.specs.declared.Full.{Full}
 use Rattle.vc_defs.specs.Bytes.{Writes, written_at}
-use Rattle.vc_defs.specs.Planes.{Block, WrittenPlane, entries_bytes, entries_after, written_plane}
+use Rattle.vc_defs.specs.Planes.{Block, entries_bytes, entries_after, written_plane}
 use Rattle.vc_plane.specs.declared.Shape.{Shape}
 use Rattle.vc_plane.specs.declared.Written.{Written}
 use Rattle.vc_plane.specs.declared.writing.Pending.{Pending}

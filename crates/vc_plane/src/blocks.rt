@@ -1,9 +1,8 @@
 //! A block as it is coded: the differences from what it is coded from, and back.
 
-ghost use Rattle.std.specs.Prelude.{◌≡◌, ◌≤◌, ◌<◌, ◌-ℤ◌, ◌+ℤ◌, ◌≤ℤ◌, ◌*◌, ℕ, pos, neg_ℤ, length, slice_index_or, map, not};
-ghost use Rattle.std.specs.List.{range_with_len};
+ghost use Rattle.std.specs.Prelude.{◌≡◌, ◌≤◌, ◌<◌, ◌-ℤ◌, ◌+ℤ◌, ◌≤ℤ◌, ◌*ℤ◌, ◌^◌, ◌*◌, ℕ, pos, neg_ℤ, length, slice_index_or, replicate, not, true, false};
 ghost use Rattle.std.specs.Int.{int_shr};
-ghost use Rattle.vc_defs.specs.Quantiser.{AllBetween, AreValues, dequantised};
+ghost use Rattle.vc_defs.specs.Quantiser.{AllBetween, AreValues, dequantised, shift_at};
 ghost use Rattle.vc_defs.specs.Walsh.{transformed};
 ghost use Rattle.vc_defs.specs.Planes.{base_of, clamped, block_count};
 ghost use Rattle.vc_plane.specs.Samples.{samples_from, AreShown};
@@ -40,7 +39,7 @@ fn sample(y: i32, base: i32) -> u8
 }
 
 /// The samples of a block, from its inverse transform and what it was coded as a difference from.
-pub(crate) fn samples(y: &[i32; 64], reference: &[u8; 64], inter: bool) -> [u8; 64]
+fn samples(y: &[i32; 64], reference: &[u8; 64], inter: bool) -> [u8; 64]
     requires { AllBetween (neg_ℤ (pos 134217728)) (pos 134217728) y.now }
     ensures { result ≡ samples_from y.now inter reference.now }
 {
@@ -51,8 +50,50 @@ pub(crate) fn samples(y: &[i32; 64], reference: &[u8; 64], inter: bool) -> [u8; 
     block
 }
 
-/// The inverse transform of the values of a block.
-pub(crate) fn restored<T: Transform>(t: &T, q: &[i32; 64], inter: bool) -> [i32; 64]
+/// Whether all values of a block are zero.
+fn is_zero(q: &[i32; 64]) -> bool
+    ensures { result ≡ true → (k : ℕ) → k < 64 → slice_index_or q.now k (pos 0) ≡ pos 0 }
+{
+    *q == [0; 64]
+}
+
+/// Whether all values of a block but the first are zero.
+fn is_flat(q: &[i32; 64]) -> bool
+    ensures { result ≡ true → (k : ℕ) → 0 < k → k < 64 → slice_index_or q.now k (pos 0) ≡ pos 0 }
+{
+    let mut others = *q;
+    others[0] = 0;
+    is_zero(&others)
+}
+
+/// The first coefficient of a block with this first value.
+#[tactic(auto, unfolding(vc_defs::specs::Quantiser::shift_at))]
+fn first_coefficient(first: i32, inter: bool) -> i32
+    requires { (neg_ℤ (pos 2048) ≤ℤ first) × (first ≤ℤ pos 2047) }
+    ensures { result ≡ first *ℤ pos (2 ^ shift_at (not inter) 0) }
+{
+    if inter { first * 8 } else { first * 4 }
+}
+
+/// A block of one number.
+fn filled(value: i32) -> [i32; 64]
+    ensures { result ≡ replicate 64 value }
+{
+    [value; 64]
+}
+
+/// The inverse transform of a block of which only the first value may not be zero: all its entries are equal.
+fn restored_flat(q: &[i32; 64], inter: bool) -> [i32; 64]
+    requires values { AreValues q.now }
+    requires flat { (k : ℕ) → 0 < k → k < 64 → slice_index_or q.now k (pos 0) ≡ pos 0 }
+    ensures is { result ≡ transformed (dequantised q.now (not inter)) }
+    ensures range { AllBetween (neg_ℤ (pos 134217728)) (pos 134217728) result }
+{
+    filled(first_coefficient(q[0], inter))
+}
+
+/// The inverse transform of a block of any values.
+fn restored_whole<T: Transform>(t: &T, q: &[i32; 64], inter: bool) -> [i32; 64]
     requires { AreValues q.now }
     ensures is { result ≡ transformed (dequantised q.now (not inter)) }
     ensures range { AllBetween (neg_ℤ (pos 134217728)) (pos 134217728) result }
@@ -60,6 +101,7 @@ pub(crate) fn restored<T: Transform>(t: &T, q: &[i32; 64], inter: bool) -> [i32;
     t.inverse(&dequantise(q, !inter))
 }
 
+<<<<<<< HEAD
 /// Shows some blocks of a plane that have one inverse transform, each over the block of the reference that it
 /// replaces.
 pub(crate) fn show_blocks(
@@ -70,15 +112,61 @@ pub(crate) fn show_blocks(
     from: usize,
     to: usize,
 )
+=======
+/// The inverse transform of the values of a block.
+fn restored<T: Transform>(t: &T, q: &[i32; 64], inter: bool) -> [i32; 64]
+    requires { AreValues q.now }
+    ensures is { result ≡ transformed (dequantised q.now (not inter)) }
+    ensures range { AllBetween (neg_ℤ (pos 134217728)) (pos 134217728) result }
+{
+    if is_flat(q) {
+        restored_flat(q, inter)
+    } else {
+        restored_whole(t, q, inter)
+    }
+}
+
+/// Shows I blocks of a plane that have one inverse transform.
+fn show_intra_blocks(y: &[i32; 64], shape: &Shape, reference: &mut [u8], from: usize, to: usize)
+>>>>>>> 077ff2c30863aee4f2efdcb4d63b665777a7f69f
     requires size { length reference.old ≡ shape.now.width * shape.now.height }
     requires some { (0 < shape.now.width) × (0 < shape.now.height) }
     requires range { AllBetween (neg_ℤ (pos 134217728)) (pos 134217728) y.now }
     requires blocks { (from ≤ to) × (to ≤ block_count shape.now.width shape.now.height) }
-    ensures { AreShown reference.old reference.new shape.now.width shape.now.height from to y.now inter }
+    ensures { AreShown reference.old reference.new shape.now.width shape.now.height from to y.now false }
+{
+    let block = samples(y, &[0; 64], false);
+    for number in from..to {
+        set_block_at(reference, shape.width, shape.height, number, &block);
+    }
+}
+
+/// Shows P blocks of a plane that have one inverse transform, each over the block of the reference that it replaces.
+fn show_inter_blocks(y: &[i32; 64], shape: &Shape, reference: &mut [u8], from: usize, to: usize)
+    requires size { length reference.old ≡ shape.now.width * shape.now.height }
+    requires some { (0 < shape.now.width) × (0 < shape.now.height) }
+    requires range { AllBetween (neg_ℤ (pos 134217728)) (pos 134217728) y.now }
+    requires blocks { (from ≤ to) × (to ≤ block_count shape.now.width shape.now.height) }
+    ensures { AreShown reference.old reference.new shape.now.width shape.now.height from to y.now true }
 {
     for number in from..to {
         let old = block_at(reference, shape.width, shape.height, number);
-        let block = samples(y, &old, inter);
+        let block = samples(y, &old, true);
         set_block_at(reference, shape.width, shape.height, number, &block);
+    }
+}
+
+/// Shows some blocks of a plane that have one type and one list of values.
+pub(crate) fn show_blocks<T: Transform>(t: &T, q: &[i32; 64], shape: &Shape, inter: bool, reference: &mut [u8], from: usize, to: usize)
+    requires size { length reference.old ≡ shape.now.width * shape.now.height }
+    requires some { (0 < shape.now.width) × (0 < shape.now.height) }
+    requires values { AreValues q.now }
+    requires blocks { (from ≤ to) × (to ≤ block_count shape.now.width shape.now.height) }
+    ensures { AreShown reference.old reference.new shape.now.width shape.now.height from to (transformed (dequantised q.now (not inter))) inter }
+{
+    if !inter {
+        show_intra_blocks(&restored(t, q, false), shape, reference, from, to);
+    } else if !is_zero(q) {
+        show_inter_blocks(&restored(t, q, true), shape, reference, from, to);
     }
 }

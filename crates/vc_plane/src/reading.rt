@@ -6,7 +6,7 @@ ghost use Rattle.vc_defs.specs.Bodies.{plane_from};
 ghost use Rattle.vc_plane.specs.Reading.{IsPlaneRead};
 
 use crate::Shape;
-use crate::blocks::{restored, show_blocks};
+use crate::blocks::show_blocks;
 use crate::entries::read_entry;
 use crate::raw::{are_samples, unpad};
 use vc_defs::Damaged;
@@ -43,8 +43,7 @@ fn read_coded<T: Transform>(
             Err(damaged) => return Err(damaged),
         };
         let last = next + entry.repeats + 1;
-        let y = restored(t, &q, entry.inter);
-        show_blocks(&y, shape, entry.inter, reference, next, last);
+        show_blocks(t, &q, shape, entry.inter, reference, next, last);
         next = last;
         end = entry.end;
     }

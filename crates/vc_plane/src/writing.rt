@@ -8,7 +8,12 @@ ghost use Rattle.vc_defs.specs.Planes.{Block, padded, same_block, canon_entry, e
 ghost use Rattle.vc_plane.specs.Entries.{block_with};
 ghost use Rattle.vc_plane.specs.Writing.{IsBlockAdded, IsPlaneWritten, pending_bytes};
 
+<<<<<<< HEAD
 use crate::blocks::{restored, show_blocks};
+=======
+use byteorder::{BigEndian, ByteOrder};
+use crate::blocks::show_blocks;
+>>>>>>> 077ff2c30863aee4f2efdcb4d63b665777a7f69f
 use crate::coding::code_block;
 use crate::entries::head;
 use crate::raw::{cap_samples, put_plane};
@@ -109,7 +114,7 @@ fn write_coded<T: Transform>(
 {
     let mut q = [0; 64];
     let inter = code_block(t, plane, reference, shape, 0, &mut q);
-    show_blocks(&restored(t, &q, inter), shape, inter, reference, 0, 1);
+    show_blocks(t, &q, shape, inter, reference, 0, 1);
     let mut pending = Pending {
         inter,
         values: q,
@@ -122,6 +127,7 @@ fn write_coded<T: Transform>(
             Ok(()) => {},
             Err(full) => return Err(full),
         }
+<<<<<<< HEAD
         show_blocks(
             &restored(t, &q, inter),
             shape,
@@ -130,6 +136,9 @@ fn write_coded<T: Transform>(
             number,
             number + 1,
         );
+=======
+        show_blocks(t, &q, shape, inter, reference, number, number + 1);
+>>>>>>> 077ff2c30863aee4f2efdcb4d63b665777a7f69f
     }
     put_entry(out, &pending)
 }

@@ -1,5 +1,5 @@
 use Rattle.std.proofs.Common.{◌≡◌, ◌≤◌, ◌*◌, get_or}
-use Rattle.std.specs.Prelude.{◌-ℤ◌, pos, sum_by, unsigned_abs}
+use Rattle.std.specs.Prelude.{sum_by}
 use Rattle.std.specs.List.{range_with_len}
 use Rattle.vc_plane.proofs.choosing.sum.Given as goal
 

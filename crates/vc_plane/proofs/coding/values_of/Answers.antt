@@ -1,8 +1,8 @@
-use Rattle.std.proofs.Common.{◌≡◌, ◌∙◌, sym, ap, subst, List, not}
+use Rattle.std.proofs.Common.{◌∙◌, sym, ap, subst, List, not}
 use Rattle.std.specs.Prelude.{ℤ}
 use Rattle.vc_defs.specs.Walsh.{transformed}
 use Rattle.vc_defs.specs.Quantiser.{AreCoefficients, quantised}
-use Rattle.vc_defs.specs.Planes.{coded_as, differences}
+use Rattle.vc_defs.specs.Planes.{coded_as}
 use Rattle.vc_defs.proofs.Bounds.{coefficients_fit}
 use Rattle.vc_plane.specs.Entries.{block_with}
 use Rattle.vc_plane.proofs.EntrySteps.{small_bytes}

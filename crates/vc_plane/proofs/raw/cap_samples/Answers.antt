@@ -1,4 +1,4 @@
-use Rattle.std.proofs.Common.{◌≡◌, ◌∙◌, sym, arith, ℕ, ◌<◌, length, get_or, map}
+use Rattle.std.proofs.Common.{◌∙◌, sym, arith, ◌<◌, length, map}
 use Rattle.std.proofs.lemmas.List.{ext_get_or, get_or-map, length-map}
 use Rattle.vc_defs.specs.Planes.{raw_sample}
 use Rattle.vc_plane.proofs.raw.cap_samples.Goals as goal

@@ -1,4 +1,4 @@
-use Rattle.std.proofs.Common.{◌≡◌, ◌∙◌, sym, ap, subst, ℕ, ◌<◌, ◌≤◌, ◌+◌, ◌*◌, ◌/◌, ◌%◌, length, get_or, arith}
+use Rattle.std.proofs.Common.{◌≡◌, ◌∙◌, subst, ℕ, ◌<◌, ◌≤◌, ◌+◌, ◌*◌, ◌/◌, ◌%◌, get_or, arith}
 use Rattle.vc_defs.specs.Planes.{padded, padded_sample, raw_sample}
 use Rattle.vc_plane.proofs.RawSamples.{row_inside, row_filled, raw_plane_is}
 use Rattle.vc_plane.proofs.raw.put_plane.Goals as goal

@@ -1,4 +1,4 @@
-use Rattle.std.proofs.Common.{◌≡◌, ℕ, ◌+◌, ◌*◌, ◌/◌, ◌%◌, ◌<◌, length, get_or}
+use Rattle.std.proofs.Common.{◌≡◌, ℕ, ◌*◌, ◌/◌, ◌%◌, ◌<◌, length, get_or}
 use Rattle.vc_defs.specs.Planes.{padded, padded_sample, raw_sample}
 use Rattle.vc_plane.proofs.raw.put_plane.Given as goal
 

@@ -1,4 +1,4 @@
-use Rattle.std.proofs.Common.{◌≡◌, ◌∙◌, sym, ap, subst, ℕ, ◌<◌, ◌+◌, ◌*◌, ◌/◌, ◌%◌, get_or, arith}
+use Rattle.std.proofs.Common.{◌≡◌, ◌∙◌, subst, ℕ, ◌<◌, ◌+◌, ◌*◌, ◌/◌, ◌%◌, get_or, arith}
 use Rattle.vc_defs.specs.Planes.{padded}
 use Rattle.vc_plane.proofs.RawSamples.{row_more, unpadded_is}
 use Rattle.vc_plane.proofs.raw.unpad.Goals as goal

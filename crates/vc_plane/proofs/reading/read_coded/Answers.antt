@@ -1,5 +1,8 @@
 use Rattle.std.proofs.Common.{◌≡◌, ◌∙◌, refl, subst, ℕ, arith, ◌+◌, ◌-◌, ◌≤◌, [], ◌++◌, replicate, drop}
 use Rattle.std.specs.declared.option.Option.TheVariants.{Some, None}
+use Rattle.std.specs.Prelude.{not}
+use Rattle.vc_defs.specs.Walsh.{transformed}
+use Rattle.vc_defs.specs.Quantiser.{dequantised}
 use Rattle.vc_defs.specs.Planes.{block_count, blocks_from, decoded_plane}
 use Rattle.vc_plane.specs.Entries.{block_with, IsEntryRead}
 use Rattle.vc_plane.proofs.Shown.{AreDecoded, none_decoded, more_decoded, all_decoded}
@@ -33,8 +36,8 @@ loop-next-preserved g c =
         parsed = more_parsed c.args.body.now c.args.at c.args.shape.now.inter c.block_count-count.result c.loop-next.next c.loop-next.end so_far.blocks c.in-Ok.entry.inter c.in-Ok.entry.repeats
             (c.loop-next.next + c.in-Ok.entry.repeats + 1) c.in-Ok.entry.end c.read_entry.new.q c.loop-next-test.true refl so_far.parsed entry;
         decoded = more_decoded so_far.blocks c.args.reference.now c.loop-next.reference c.show_blocks.new.reference c.args.shape.now.width c.args.shape.now.height c.loop-next.next (c.in-Ok.entry.repeats + 1)
-            (c.loop-next.next + c.in-Ok.entry.repeats + 1) c.restored-y.result c.read_entry.new.q c.in-Ok.entry.inter c.requires.some.0 c.requires.some.1 (omega (arith, most, c.block_count-count.ensures)) sum so_far.parsed.many
-            so_far.decoded c.show_blocks.ensures c.restored-y.ensures.is;
+            (c.loop-next.next + c.in-Ok.entry.repeats + 1) (transformed (dequantised c.read_entry.new.q (not c.in-Ok.entry.inter))) c.read_entry.new.q c.in-Ok.entry.inter c.requires.some.0 c.requires.some.1 (omega (arith, most, c.block_count-count.ensures)) sum so_far.parsed.many
+            so_far.decoded c.show_blocks.ensures refl;
       };
     }
 

@@ -1,4 +1,4 @@
-use Rattle.std.proofs.Common.{◌≡◌, ◌∙◌, sym, ap, refl, ◌≤◌, ◌+◌, arith}
+use Rattle.std.proofs.Common.{◌≡◌, sym, refl, arith}
 use Rattle.std.specs.Prelude.{true, nat_lt}
 use Rattle.std.proofs.lemmas.Bool.{and_parts}
 use Rattle.std.proofs.lemmas.Bool.Decides.{nat_tests}

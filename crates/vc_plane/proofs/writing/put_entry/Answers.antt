@@ -1,4 +1,4 @@
-use Rattle.std.proofs.Common.{◌≡◌, ℕ, List, subst}
+use Rattle.std.proofs.Common.{ℕ, subst}
 use Rattle.std.specs.Prelude.{Ok}
 use Rattle.vc_defs.specs.Bytes.{Writes}
 use Rattle.vc_defs.specs.Words.{word_bytes, words_bytes, canon, in_scan_order}

@@ -1,5 +1,7 @@
-use Rattle.std.proofs.Common.{◌≡◌, ◌∙◌, sym, ap, subst, ℕ, ◌<◌, ◌≤◌, ◌+◌, List, [], length, get_or, arith}
-use Rattle.std.specs.Prelude.{false}
+use Rattle.std.proofs.Common.{refl, ◌≡◌, ◌∙◌, sym, ap, subst, ℕ, ◌<◌, ◌≤◌, ◌+◌, List, [], length, get_or, arith}
+use Rattle.std.specs.Prelude.{not, false}
+use Rattle.vc_defs.specs.Walsh.{transformed}
+use Rattle.vc_defs.specs.Quantiser.{dequantised}
 use Rattle.vc_defs.specs.Planes.{Block, block_count, coded_blocks, decoded_plane}
 use Rattle.vc_plane.specs.Entries.{block_with}
 use Rattle.vc_plane.specs.Writing.{IsBlockAdded}
@@ -13,11 +15,11 @@ loop-number-init g c =
     record {
       size = c.show_blocks.auto.reference ∙ c.requires.size;
       end = c.block_count-number-end.ensures;
-      coded = first_coded (coded_blocks c.args.shape.now.inter c.args.shape.now.qp c.args.plane.now c.args.reference.now c.args.shape.now.width c.args.shape.now.height) c.args.reference.now c.show_blocks.new.reference c.args.shape.now.width c.args.shape.now.height c.args.out.now c.code_block-inter.result c.code_block-inter.new.q c.restored.result c.requires.some.0 c.requires.some.1 some
+      coded = first_coded (coded_blocks c.args.shape.now.inter c.args.shape.now.qp c.args.plane.now c.args.reference.now c.args.shape.now.width c.args.shape.now.height) c.args.reference.now c.show_blocks.new.reference c.args.shape.now.width c.args.shape.now.height c.args.out.now c.code_block-inter.result c.code_block-inter.new.q (transformed (dequantised c.code_block-inter.new.q (not c.code_block-inter.result))) c.requires.some.0 c.requires.some.1 some
           (omega (arith, some, length-coded_blocks c.args.shape.now.inter c.args.shape.now.qp c.args.plane.now c.args.reference.now c.args.shape.now.width c.args.shape.now.height)) c.code_block-inter.ensures.range
           (block_coded c.args.shape.now.inter c.args.shape.now.qp c.args.plane.now c.args.reference.now c.args.reference.now c.args.shape.now.width c.args.shape.now.height 0 (block_with c.code_block-inter.result c.code_block-inter.new.q) [] c.requires.some.0 c.requires.some.1 some
           (none_decoded [] c.args.reference.now c.args.shape.now.width c.args.shape.now.height) c.code_block-inter.ensures.coded)
-          c.show_blocks.ensures c.restored.ensures.is;
+          c.show_blocks.ensures refl;
     }
 
 pub add_block-requires-clause-place : goal.add_block-requires-clause-place
@@ -37,10 +39,10 @@ loop-number-preserved g c =
       size = c.show_blocks-in-loop-number.auto.reference ∙ c.loop-number.invariant.size;
       end = c.loop-number.invariant.end;
       coded = more_coded (coded_blocks c.args.shape.now.inter c.args.shape.now.qp c.args.plane.now c.args.reference.now c.args.shape.now.width c.args.shape.now.height) c.args.reference.now c.loop-number.reference c.show_blocks-in-loop-number.new.reference c.args.shape.now.width c.args.shape.now.height c.loop-number.number c.args.out.now c.loop-number.out c.add_block.new.out c.loop-number.pending c.add_block.new.pending
-          c.code_block-inter-in-loop-number.result c.code_block-inter-in-loop-number.new.q c.restored-in-loop-number.result c.requires.some.0 c.requires.some.1 inside (omega (arith, inside, length-coded_blocks c.args.shape.now.inter c.args.shape.now.qp c.args.plane.now c.args.reference.now c.args.shape.now.width c.args.shape.now.height)) c.code_block-inter-in-loop-number.ensures.range
+          c.code_block-inter-in-loop-number.result c.code_block-inter-in-loop-number.new.q (transformed (dequantised c.code_block-inter-in-loop-number.new.q (not c.code_block-inter-in-loop-number.result))) c.requires.some.0 c.requires.some.1 inside (omega (arith, inside, length-coded_blocks c.args.shape.now.inter c.args.shape.now.qp c.args.plane.now c.args.reference.now c.args.shape.now.width c.args.shape.now.height)) c.code_block-inter-in-loop-number.ensures.range
           (block_coded c.args.shape.now.inter c.args.shape.now.qp c.args.plane.now c.args.reference.now c.loop-number.reference c.args.shape.now.width c.args.shape.now.height c.loop-number.number (block_with c.code_block-inter-in-loop-number.result c.code_block-inter-in-loop-number.new.q)
           (coded_blocks c.args.shape.now.inter c.args.shape.now.qp c.args.plane.now c.args.reference.now c.args.shape.now.width c.args.shape.now.height) c.requires.some.0 c.requires.some.1 inside so_far.decoded c.code_block-inter-in-loop-number.ensures.coded)
-          so_far c.in-Ok.ensures.ok c.show_blocks-in-loop-number.ensures c.restored-in-loop-number.ensures.is;
+          so_far c.in-Ok.ensures.ok c.show_blocks-in-loop-number.ensures refl;
     }
 
 pub returns-in-Err-clause-bytes : goal.returns-in-Err-clause-bytes

@@ -1,4 +1,4 @@
-use Rattle.std.proofs.Common.{◌≡◌, ◌∙◌, ◌+◌, ◌*◌, ◌-◌, ◌≤◌, length, take, drop, length-take, length-drop, arith}
+use Rattle.std.proofs.Common.{◌≡◌, ◌∙◌, ◌+◌, ◌*◌, ◌-◌, ◌≤◌, length, drop, length-take, length-drop, arith}
 use Rattle.vc_defs.specs.Planes.{padded}
 use Rattle.vc_plane.proofs.RawSamples.{padded_size}
 use Rattle.vc_plane.proofs.WrittenPlanes.{words_written, raw_written}

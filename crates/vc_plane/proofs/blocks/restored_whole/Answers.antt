@@ -1,6 +1,6 @@
 use Rattle.std.proofs.Common.{not}
 use Rattle.vc_plane.proofs.Ranges.{restored_in_range, length-dequantised}
-use Rattle.vc_plane.proofs.blocks.restored.Goals as goal
+use Rattle.vc_plane.proofs.blocks.restored_whole.Goals as goal
 
 pub returns-clause-range : goal.returns-clause-range
 returns-clause-range g c =
