@@ -101,18 +101,6 @@ fn restored_whole<T: Transform>(t: &T, q: &[i32; 64], inter: bool) -> [i32; 64]
     t.inverse(&dequantise(q, !inter))
 }
 
-<<<<<<< HEAD
-/// Shows some blocks of a plane that have one inverse transform, each over the block of the reference that it
-/// replaces.
-pub(crate) fn show_blocks(
-    y: &[i32; 64],
-    shape: &Shape,
-    inter: bool,
-    reference: &mut [u8],
-    from: usize,
-    to: usize,
-)
-=======
 /// The inverse transform of the values of a block.
 fn restored<T: Transform>(t: &T, q: &[i32; 64], inter: bool) -> [i32; 64]
     requires { AreValues q.now }
@@ -128,7 +116,6 @@ fn restored<T: Transform>(t: &T, q: &[i32; 64], inter: bool) -> [i32; 64]
 
 /// Shows I blocks of a plane that have one inverse transform.
 fn show_intra_blocks(y: &[i32; 64], shape: &Shape, reference: &mut [u8], from: usize, to: usize)
->>>>>>> 077ff2c30863aee4f2efdcb4d63b665777a7f69f
     requires size { length reference.old ≡ shape.now.width * shape.now.height }
     requires some { (0 < shape.now.width) × (0 < shape.now.height) }
     requires range { AllBetween (neg_ℤ (pos 134217728)) (pos 134217728) y.now }
@@ -157,7 +144,15 @@ fn show_inter_blocks(y: &[i32; 64], shape: &Shape, reference: &mut [u8], from: u
 }
 
 /// Shows some blocks of a plane that have one type and one list of values.
-pub(crate) fn show_blocks<T: Transform>(t: &T, q: &[i32; 64], shape: &Shape, inter: bool, reference: &mut [u8], from: usize, to: usize)
+pub(crate) fn show_blocks<T: Transform>(
+    t: &T,
+    q: &[i32; 64],
+    shape: &Shape,
+    inter: bool,
+    reference: &mut [u8],
+    from: usize,
+    to: usize,
+)
     requires size { length reference.old ≡ shape.now.width * shape.now.height }
     requires some { (0 < shape.now.width) × (0 < shape.now.height) }
     requires values { AreValues q.now }

@@ -8,12 +8,7 @@ ghost use Rattle.vc_defs.specs.Planes.{Block, padded, same_block, canon_entry, e
 ghost use Rattle.vc_plane.specs.Entries.{block_with};
 ghost use Rattle.vc_plane.specs.Writing.{IsBlockAdded, IsPlaneWritten, pending_bytes};
 
-<<<<<<< HEAD
-use crate::blocks::{restored, show_blocks};
-=======
-use byteorder::{BigEndian, ByteOrder};
 use crate::blocks::show_blocks;
->>>>>>> 077ff2c30863aee4f2efdcb4d63b665777a7f69f
 use crate::coding::code_block;
 use crate::entries::head;
 use crate::raw::{cap_samples, put_plane};
@@ -127,18 +122,7 @@ fn write_coded<T: Transform>(
             Ok(()) => {},
             Err(full) => return Err(full),
         }
-<<<<<<< HEAD
-        show_blocks(
-            &restored(t, &q, inter),
-            shape,
-            inter,
-            reference,
-            number,
-            number + 1,
-        );
-=======
         show_blocks(t, &q, shape, inter, reference, number, number + 1);
->>>>>>> 077ff2c30863aee4f2efdcb4d63b665777a7f69f
     }
     put_entry(out, &pending)
 }
