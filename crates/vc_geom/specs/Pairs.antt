@@ -1,13 +1,10 @@
 -- The formats of the two sides of a context, and which pairs a context can have.
-use Rattle.std.specs.Prelude.{◌≡◌, ℕ, ◌≤◌, Bool, List, [], ◌∷◌, Option, Some, None, if◌then◌else◌}
+use Rattle.std.specs.Prelude.{◌≡◌, ℕ, ◌≤◌, Bool, [], ◌∷◌, Option, Some, None, if◌then◌else◌}
 use Rattle.std.specs.List.{list_any}
 use Rattle.vc_base.specs.declared.Kind.{Kind}
 use Rattle.vc_base.specs.declared.Kind.TheVariants.{Copy, Enc, Dec}
 use Rattle.vc_base.specs.declared.Fourcc.{Fourcc}
 use Rattle.vc_base.specs.declared.Format.{Format}
-use Rattle.vc_defs.specs.declared.Layout.{Layout}
-use Rattle.vc_defs.specs.declared.Geometry.{Geometry}
-use Rattle.vc_defs.specs.Headers.{is_legal_geometry}
 use Rattle.vc_defs.specs.Raw.{grey, yu12, nv12, yuyv, same_fourcc, layout_of, raw_size}
 use Rattle.vc_defs.specs.Laws.{IsRawFormat}
 use Rattle.vc_model.specs.Formats.{FormatPair, data_format, coded_format, frame_room}

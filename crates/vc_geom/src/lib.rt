@@ -4,7 +4,7 @@
 
 ghost use Rattle.std.specs.Prelude.{◌≡◌, ◌≤◌, ◌*◌, ◌∷◌, [], true, slice_get};
 ghost use Rattle.std.specs.List.{list_any};
-ghost use Rattle.vc_base.specs.declared.Kind.TheVariants.{Dec};
+ghost use Rattle.vc_base.specs.declared.Kind.TheVariants.{Copy, Enc, Dec};
 ghost use Rattle.vc_base.specs.declared.Side.TheVariants.{Cap};
 ghost use Rattle.vc_defs.specs.Planes.{padded};
 ghost use Rattle.vc_defs.specs.Headers.{is_legal_geometry};
@@ -226,7 +226,8 @@ fn coded_format(width: u32, height: u32, size: u32) -> Format
 
 /// The formats of a copying context whose buffers have a size.
 fn copy_formats(size: u32) -> Formats
-    ensures { pair_of result ≡ copied size }
+    ensures formats { pair_of result ≡ copied size }
+    ensures stand { 1 ≤ size → size ≤ 17694720 → CanStand Copy (pair_of result) }
 {
     let format = Format {
         fourcc: DATA,
@@ -249,7 +250,8 @@ fn size_or(size: u32, other: u32) -> u32
 
 /// What asking an encoder's OUTPUT for a format gives.
 fn encoder_formats(want: &Format) -> Formats
-    ensures { pair_of result ≡ encoder_formats (listed_or (grey ∷ yu12 ∷ nv12 ∷ yuyv ∷ []) want.now.fourcc yu12) want.now.width want.now.height }
+    ensures formats { pair_of result ≡ encoder_formats (listed_or (grey ∷ yu12 ∷ nv12 ∷ yuyv ∷ []) want.now.fourcc yu12) want.now.width want.now.height }
+    ensures stand { CanStand Enc (pair_of result) }
 {
     let fourcc = if is_raw(want.fourcc) {
         want.fourcc
@@ -267,7 +269,8 @@ fn encoder_formats(want: &Format) -> Formats
 
 /// What asking a decoder's OUTPUT for a format gives.
 fn decoder_formats(want: &Format) -> Formats
-    ensures { pair_of result ≡ decoder_formats want.now }
+    ensures formats { pair_of result ≡ decoder_formats want.now }
+    ensures stand { CanStand Dec (pair_of result) }
 {
     let width = width_for(Layout::C420, want.width);
     let height = height_for(Layout::C420, want.height);
@@ -281,6 +284,7 @@ fn decoder_formats(want: &Format) -> Formats
 /// The formats of a fresh context.
 pub fn open_formats(kind: Kind) -> Formats
     ensures formats { pair_of result ≡ formats_at_open kind }
+    ensures stand { CanStand kind (pair_of result) }
 {
     match kind {
         Kind::Copy => copy_formats(4096),
@@ -334,6 +338,7 @@ fn enum_raw(layout: Layout, index: u32) -> Option<Fourcc>
 pub fn try_format(kind: Kind, side: Side, present: &Formats, want: &Format) -> Formats
     requires { CanStand kind (pair_of present.now) }
     ensures formats { pair_of result ≡ formats_for kind side (pair_of present.now) want.now }
+    ensures stand { CanStand kind (pair_of result) }
 {
     match (kind, side) {
         (Kind::Copy, Side::Out) => copy_formats(size_or(want.size, 4096).clamp(1, 17_694_720)),
@@ -347,7 +352,8 @@ pub fn try_format(kind: Kind, side: Side, present: &Formats, want: &Format) -> F
 /// A decoder's formats after its CAPTURE was asked for a fourcc.
 fn raw_formats(present: &Formats, fourcc: Fourcc) -> Formats
     requires { CanStand Dec (pair_of present.now) }
-    ensures { pair_of result ≡ formats_for Dec Cap (pair_of present.now) (record { fourcc = fourcc; width = 0; height = 0; size = 0 }) }
+    ensures formats { pair_of result ≡ formats_for Dec Cap (pair_of present.now) (record { fourcc = fourcc; width = 0; height = 0; size = 0 }) }
+    ensures stand { CanStand Dec (pair_of result) }
 {
     let Format { width, height, .. } = present.cap;
     let fourcc = raw_or_first(layout_of(present.cap.fourcc), fourcc);
@@ -364,6 +370,7 @@ fn raw_formats(present: &Formats, fourcc: Fourcc) -> Formats
 pub fn formats_found(present: &Formats, geometry: &Geometry) -> Formats
     requires { is_legal_geometry geometry.now ≡ true }
     ensures formats { pair_of result ≡ formats_found (pair_of present.now) geometry.now }
+    ensures stand { CanStand Dec (pair_of present.now) → CanStand Dec (pair_of result) }
 {
     let Geometry {
         width,
@@ -376,3 +383,6 @@ pub fn formats_found(present: &Formats, geometry: &Geometry) -> Formats
         cap: raw_format(fourcc, width, height),
     }
 }
+
+#[cfg(test)]
+mod tests;

@@ -1,0 +1,9 @@
+use Rattle.std.proofs.Common.{◌≡◌, ℕ, ◌<◌, ◌+◌, get_or}
+use Rattle.vc_raw.specs.Rows.{row_byte}
+use Rattle.vc_raw.proofs.fill_row.Given as goal
+
+abbrev pub invariant-loop-k : goal.invariant-loop-k
+invariant-loop-k l = record {
+  written : (j : ℕ) → j < l.k → get_or l.out (l.at + j) 0 ≡ row_byte l.row j l.y l.picture l.number;
+  kept : (j : ℕ) → j < l.at → get_or l.out j 0 ≡ get_or l.initial.out j 0;
+}
