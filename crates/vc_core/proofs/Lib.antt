@@ -3,6 +3,7 @@ pub mod Claiming
 pub mod Copying
 pub mod Cores
 pub mod Finishing
+pub mod Fitting
 pub mod Moving
 pub mod Refusing
 pub mod Running

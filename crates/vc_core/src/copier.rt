@@ -11,6 +11,7 @@ ghost use Rattle.vc_base.specs.declared.Call.TheVariants.{ReqBufs, CreateBufs, Q
 ghost use Rattle.vc_base.specs.Buffers.{querybuf_reply, reqbufs_refusal, create_refusal};
 ghost use Rattle.std.specs.Option.{option_map};
 ghost use Rattle.vc_queue.specs.Growing.{cannot_grow};
+ghost use Rattle.vc_queue.specs.Holds.{HoldState};
 ghost use Rattle.vc_model.specs.Formats.{formats_for, formats_listed, clamp, size_or};
 ghost use Rattle.vc_model.specs.Context.{queue_of, fresh_context};
 ghost use Rattle.vc_model.specs.Answer.{desc_answer, format_answer, try_answer, set_refusal, set_answer, reqbufs_answer, create_answer, query_answer, qbuf_answer, dqbuf_answer, streamon_answer, streamoff_answer, context_answer, unchanged, readiness};
@@ -19,7 +20,7 @@ ghost use Rattle.vc_core.specs.Steps.{TakesMemory};
 ghost use Rattle.vc_model.specs.Runs.{is_claimable, after_claim};
 ghost use Rattle.vc_model.specs.Standing.{without_job};
 ghost use Rattle.vc_core.specs.Contexts.{HasRoom, data_bytes, data_formats, Gives, GivesWithMemory, IsKept, IsStep, is_close, told_of, refused_or_blocked, taken_or_blocked, has_work};
-ghost use Rattle.vc_core.specs.Jobs.{IsJobWith, Brings, RunsIn, IsOfContext, brought_used, brought_flags};
+ghost use Rattle.vc_core.specs.Jobs.{IsJobWith, RunsWith, Brings, RunsIn, IsOfContext, brought_used, brought_flags};
 ghost use Rattle.vc_core.specs.Payloads.{FitsContext, Moves, handed_over};
 
 use crate::job::{Finished, Job};
@@ -512,6 +513,8 @@ impl Copier {
         ensures step { IsStep self.old self.new }
         ensures job { IsJobWith slot (claimed_in (Some self.old)) result }
         ensures taken { is_claimable (Some self.new) ≡ false }
+        ensures runs { RunsWith (Some self.new) (claimed_in (Some self.old)) }
+        ensures holds { (hold : HoldState) → FitsContext self.old hold → FitsContext self.new hold }
     {
         let source = self.out.lend();
         let dest = self.cap.lend();
@@ -525,6 +528,7 @@ impl Copier {
         requires room { HasRoom self.old }
         requires back { IsOfContext self.old finished }
         ensures after { (k : ℕ) (back : BroughtBack) → RunsIn self.old back.job → Brings k back finished → self.new ≡ finished_context self.old back }
+        ensures holds { (hold : HoldState) → FitsContext self.old hold → FitsContext self.new hold }
         ensures step { IsStep self.old self.new }
     {
         let Finished {

@@ -1,9 +1,10 @@
 //! The device.
 
-ghost use Rattle.std.specs.Prelude.{◌≡◌, ◌<◌, ◌≤◌, ◌+◌, ◌^◌, ℕ, length, IfOk, None, replicate};
+ghost use Rattle.std.specs.Prelude.{◌≡◌, ◌≢◌, ◌<◌, ◌≤◌, ◌+◌, ◌^◌, ℕ, length, IfOk, IfSome, None, replicate};
 ghost use Rattle.vc_model.specs.Devices.{slot_of, job_of, steps_of};
 ghost use Rattle.vc_model.specs.Core.{BroughtBack, new_core, core_claim, core_finish, core_shut, claimed_job, before_memory};
-ghost use Rattle.vc_core.specs.Jobs.{Brings, HasJob, IsClaim, IsOfWorker};
+ghost use Rattle.vc_core.specs.Jobs.{Brings, HasJob, IsClaim, IsJobOfWorker, IsOfWorker};
+ghost use Rattle.vc_queue.specs.Holds.{HoldState};
 ghost use Rattle.vc_core.specs.Payloads.{FitsSlot, Moves};
 ghost use Rattle.vc_core.specs.Steps.{IsCall, TakesMemory};
 
@@ -95,6 +96,7 @@ impl Core {
         ensures step { IsCall self.old slot call.now hold.old result self.new }
         ensures payloads { Moves (slot_of self.old slot) call.now result hold.old hold.new }
         ensures fit { FitsSlot (slot_of self.new slot) hold.new }
+        ensures others { (k : ℕ) → k ≢ slot → slot_of self.new k ≡ slot_of self.old k }
         ensures size { length self.new.slots ≡ length self.old.slots }
         ensures crew { self.new.workers ≡ self.old.workers }
         ensures steps { self.new.steps ≡ self.old.steps + steps_of result }
@@ -114,6 +116,8 @@ impl Core {
         requires counts { self.old.steps < 2 ^ 62 }
         ensures step { self.new ≡ (core_claim self.old worker).device }
         ensures job { IsClaim self.old.waiting (claimed_job self.old) result }
+        ensures has { IfSome result (IsJobOfWorker self.new worker) }
+        ensures holds { (k : ℕ) (hold : HoldState) → FitsSlot (slot_of self.old k) hold → FitsSlot (slot_of self.new k) hold }
         ensures size { length self.new.slots ≡ length self.old.slots }
         ensures crew { length self.new.workers ≡ length self.old.workers }
         ensures steps { self.new.steps ≤ self.old.steps + 1 }
@@ -132,6 +136,7 @@ impl Core {
         requires job { IsOfWorker self.old worker finished }
         requires counts { self.old.steps < 2 ^ 62 }
         ensures step { (k : ℕ) (back : BroughtBack) → HasJob self.old worker k back.job → Brings k back finished → self.new ≡ (core_finish self.old worker back).device }
+        ensures holds { (k : ℕ) (hold : HoldState) → FitsSlot (slot_of self.old k) hold → FitsSlot (slot_of self.new k) hold }
         ensures size { length self.new.slots ≡ length self.old.slots }
         ensures crew { length self.new.workers ≡ length self.old.workers }
         ensures steps { self.new.steps ≡ self.old.steps + 1 }

@@ -10,7 +10,8 @@ ghost use Rattle.vc_core.specs.Steps.{TakesMemory};
 ghost use Rattle.vc_model.specs.Runs.{is_claimable};
 ghost use Rattle.vc_model.specs.Context.{fresh_context};
 ghost use Rattle.vc_core.specs.Contexts.{IsKeptSlot, IsStepOfSlot, SlotHasRoom, IsAnswer, opened_kind, is_close, claimed_slot, finished_slot};
-ghost use Rattle.vc_core.specs.Jobs.{IsJobWith, IsOfSlot, RunsInSlot, Brings};
+ghost use Rattle.vc_core.specs.Jobs.{IsJobWith, RunsWith, IsOfSlot, RunsInSlot, Brings};
+ghost use Rattle.vc_queue.specs.Holds.{HoldState};
 ghost use Rattle.vc_core.specs.Payloads.{FitsSlot, Moves, handed_over};
 
 use crate::copier::Copier;
@@ -197,6 +198,8 @@ impl Slot {
         ensures step { IsStepOfSlot self.old self.new }
         ensures job { IsJobWith slot (claimed_in self.old) result }
         ensures taken { is_claimable self.new ≡ false }
+        ensures runs { RunsWith self.new (claimed_in self.old) }
+        ensures holds { (hold : HoldState) → FitsSlot self.old hold → FitsSlot self.new hold }
     {
         let Content::Copying(copier) = &mut self.content else {
             unreachable!()
@@ -210,6 +213,7 @@ impl Slot {
         requires room { SlotHasRoom self.old }
         requires back { IsOfSlot self.old finished }
         ensures after { (k : ℕ) (back : BroughtBack) → RunsInSlot self.old back.job → Brings k back finished → self.new ≡ finished_slot self.old back }
+        ensures holds { (hold : HoldState) → FitsSlot self.old hold → FitsSlot self.new hold }
         ensures step { IsStepOfSlot self.old self.new }
     {
         let Content::Copying(copier) = &mut self.content else {
