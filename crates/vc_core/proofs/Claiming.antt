@@ -4,7 +4,7 @@ use Rattle.std.specs.Prelude.{is_some, is_none}
 use Rattle.std.proofs.lemmas.Bool.{false≢true, and_parts}
 use Rattle.vc_base.specs.declared.Side.{Side}
 use Rattle.vc_base.specs.declared.Side.TheVariants.{Out, Cap}
-use Rattle.vc_base.specs.Buffers.{Buffer, QueueState, is_empty, lend_after, lend_front, without_job_bytes}
+use Rattle.vc_base.specs.Buffers.{Buffer, QueueState, is_empty, lend_after, lend_front, without_bytes, without_job_bytes}
 use Rattle.vc_model.specs.Context.{Context, Slot, copy}
 use Rattle.vc_model.specs.Runs.{is_claimable, after_claim, claim_front, running_of, job_data, source_of}
 use Rattle.vc_model.specs.Standing.{without_job, job_in}
@@ -13,7 +13,7 @@ use Rattle.vc_queue.specs.declared.queue.Lent.{Lent}
 use Rattle.vc_queue.specs.Lending.{IsLent, IsLentFrom}
 use Rattle.vc_queue.specs.Releasing.{front_ordinal}
 use Rattle.vc_core.specs.Contexts.{data_bytes, copier_state, job_mark, AreFilled, has_work, IsKept, IsCounted, IsStep}
-use Rattle.vc_core.specs.Jobs.{IsGiven, IsDest, claimed_data}
+use Rattle.vc_core.specs.Jobs.{IsGiven, IsDest, RunsIn, RunsWith, claimed_data}
 
 -- when a job can be claimed
 
@@ -107,6 +107,16 @@ taken_job : (size : ℕ) (out cap : QueueState) (running : Bool) (bs : List Buff
 taken_job size out cap running [] e = absurd (false≢true (sym e))
 taken_job size out cap running (b ∷ rest) e = refl
 
+runs_front : (size : ℕ) (out cap : QueueState) (running : Bool) (bs ds : List Buffer) → out.ready ≡ bs → cap.ready ≡ ds → is_empty bs ≡ false → is_empty ds ≡ false → let c : Context = copier_state size out cap running in RunsIn (copier_state size (without_job_bytes (lend_after out)) (without_job_bytes (lend_after cap)) true) (job_data (claim_front c copy bs) (running_of c copy))
+runs_front size out cap running [] ds eo ec e f = absurd (false≢true (sym e))
+runs_front size out cap running (b ∷ rest) ds eo ec e f =
+    let jo : (lend_after out).job ≡ b ∷ [] = ap (λ (xs : List Buffer). (lend_front out xs).job) eo in
+    record {
+      running = refl;
+      source = ap (map without_bytes) jo ∙ ap (λ (j : List Buffer). without_bytes (source_of j) ∷ []) (sym jo);
+      dest = refl;
+    }
+
 module _ (size : ℕ) (out cap : QueueState) (running : Bool) (c : Context) (view : copier_state size out cap running ≡ c) (can : is_claimable (Some c) ≡ true) where
   is_due : IsDue size out cap running
   is_due = due size out cap running c view can
@@ -154,3 +164,8 @@ module _ (size : ℕ) (out cap : QueueState) (running : Bool) (c : Context) (vie
 
   pub is_taken : (new_out new_cap : QueueState) → is_claimable (Some (copier_state size new_out new_cap true)) ≡ false
   is_taken new_out new_cap = claimable_is size new_out new_cap true
+
+  pub claim_runs : (new_out new_cap : QueueState) → new_out ≡ without_job_bytes (lend_after out) → new_cap ≡ without_job_bytes (lend_after cap) → RunsWith (Some (copier_state size new_out new_cap true)) (claimed_in (Some c))
+  unfolding after_claim
+  claim_runs new_out new_cap eo ec =
+      rw (claimed_is, eo, ec, ← view) (runs_front size out cap running out.ready cap.ready refl refl is_due.source is_due.dest)

@@ -23,8 +23,8 @@ use Rattle.vc_jobs.specs.Jobs as jobs
 use Rattle.vc_core.specs.declared.job.Job.{Job}
 use Rattle.vc_core.specs.declared.job.Finished as job
 use Rattle.vc_core.specs.Contexts.{IsKeptSlot, IsCountedSlot, IsStepOfSlot, SlotHasRoom, IsCounted, HasRoom, IsAnswer, claimed_slot, finished_slot}
-use Rattle.vc_core.specs.Jobs.{IsJobWith, IsClaim, HasJob, RunsInSlot, Brings, IsOfWorker, IsOfSlot}
-use Rattle.vc_core.specs.Payloads.{handed_over}
+use Rattle.vc_core.specs.Jobs.{IsJobWith, RunsWith, HasJob, RunsInSlot, Brings, IsJobOfWorker, IsOfWorker}
+use Rattle.vc_core.specs.Payloads.{handed_over, FitsSlot}
 use Rattle.vc_core.specs.Steps.{IsCall, IsCore, slot_at}
 
 -- the two lists of waiting slots are one
@@ -120,6 +120,30 @@ core_state slots waiting workers shut steps =
 within : (k n : ℕ) → k < n → (b : Bool) → ltb k n ≡ b → b ≡ true
 within k n h true e = refl
 within k n h false e = absurd (omega (arith, h, ltb-false k n e))
+
+-- the other slots stay, and what fits goes on fitting
+
+pub others_at : (slots : List Slot) (waiting waiting_new : List ℕ) (workers workers_new : List (Option ℕ)) (shut : Bool) (steps steps_new : ℕ) (now : CoreState) (k j : ℕ) (new : Slot) → core_state slots waiting workers shut steps ≡ now → (j ≡ k → ⊥) → slot_of (core_state (set slots k new) waiting_new workers_new shut steps_new) j ≡ slot_of now j
+others_at slots waiting waiting_new workers workers_new shut steps steps_new now k j new view n =
+    other_at slots k j new n ∙ ap (λ (x : CoreState). slot_of x j) view
+
+pub holds_at : (slots : List Slot) (waiting : List ℕ) (workers : List (Option ℕ)) (shut : Bool) (steps : ℕ) (now : CoreState) (k : ℕ) (old new : Slot) (j : ℕ) (hold : HoldState) → core_state slots waiting workers shut steps ≡ now → k < length slots → old ≡ get_or slots k old → ((h : HoldState) → FitsSlot old h → FitsSlot new h) → FitsSlot (slot_of now j) hold → FitsSlot (slot_at (set slots k new) j) hold
+holds_at slots waiting workers shut steps now k old new j hold view h there keeps fits =
+    let f : FitsSlot (slot_at slots j) hold = subst (λ (x : CoreState). FitsSlot (slot_of x j) hold) (sym view) fits in
+    let is : old ≡ slot_at slots k = there ∙ any_default slots k old None h in
+    ⊎_elim (λ (e : j ≡ k). let g : FitsSlot new hold = keeps hold (subst (λ (s : Slot). FitsSlot s hold) (sym is) (subst (λ (i : ℕ). FitsSlot (slot_at slots i) hold) e f)) in subst (λ (i : ℕ). FitsSlot (slot_at (set slots k new) i) hold) (sym e) (subst (λ (s : Slot). FitsSlot s hold) (sym (same_at slots k new h)) g)) (λ (n : j ≡ k → ⊥). subst (λ (s : Slot). FitsSlot s hold) (sym (other_at slots k j new n)) f) (cases_eq j k)
+
+-- the worker has the job
+
+job_cases : (core : CoreState) (worker k : ℕ) (new : Slot) (given : Option JobData) (taken : Job) → job_of core worker ≡ Some k → slot_of core k ≡ new → RunsWith new given → IsJobWith k given taken → IsJobOfWorker core worker taken
+job_cases core worker k new None taken has here r i = absurd r
+job_cases core worker k new (Some j) taken has here r i =
+    record { slot = k; given = j; has = record { of_slot = has; data_there = subst (λ (s : Slot). RunsInSlot s j) (sym here) r }; is_of = i }
+
+pub worker_has : (slots : List Slot) (waiting waiting_new : List ℕ) (workers : List (Option ℕ)) (shut : Bool) (steps steps_new : ℕ) (now : CoreState) (worker k : ℕ) (new : Slot) (given : Option JobData) (taken : Job) → core_state slots waiting workers shut steps ≡ now → worker < length now.workers → k < length slots → RunsWith new given → IsJobWith k given taken → IsJobOfWorker (core_state (set slots k new) waiting_new (set workers worker (Some k)) shut steps_new) worker taken
+worker_has slots waiting waiting_new workers shut steps steps_new now worker k new given taken view w h r i =
+    let w' : worker < length workers = subst (λ (x : CoreState). worker < length x.workers) (sym view) w in
+    job_cases _ worker k new given taken (get_or-set_same workers worker (Some k) None w') (same_at slots k new h) r i
 
 -- A call
 
@@ -218,7 +242,7 @@ claimed_core slots waiting workers shut steps k rest old new worker now view w f
     sym (first ∙ (old_there ∙ (d ∙ e)))
 
 module _ (slots : List Slot) (list list_new : Jobs) (steps k : ℕ) (old new : Slot) (core : IsCore slots list steps) (front : Some k ≡ jobs.front_of list.waiting) (settled : list_new ≡ jobs.with_waiting list (jobs.rest_of list.waiting)) (below : k < list_new.slots) (gone : waits list_new.waiting k ≡ false) (there : old ≡ get_or slots k old) where
-  slot_below : k < length slots
+  pub slot_below : k < length slots
   slot_below =
       let e : list_new.slots ≡ list.slots = ap (λ (l : Jobs). l.slots) settled in
       omega (arith, below, e, core.room)

@@ -3,7 +3,10 @@ pub mod Claiming
 pub mod Copying
 pub mod Cores
 pub mod Finishing
+pub mod Fitting
 pub mod Moving
+pub mod Refusing
 pub mod Running
 pub mod Slots
 pub mod Stepping
+pub mod There

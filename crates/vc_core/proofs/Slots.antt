@@ -20,7 +20,7 @@ use Rattle.vc_core.specs.declared.slot.Content.TheVariants.{Closed, Copying}
 use Rattle.vc_core.specs.declared.copier.Copier.{Copier}
 use Rattle.vc_core.specs.Contents.{slot_state}
 use Rattle.vc_core.specs.Contexts.{GivesWithMemory, IsAnswer, opened_kind}
-use Rattle.vc_core.specs.Payloads.{HoldsNothing, FitsSlot, empty_hold}
+use Rattle.vc_core.specs.Payloads.{HoldsNothing, FitsContext, FitsSlot, empty_hold}
 
 pub closed_view : (content : Content) (s : Slot) → slot_state content ≡ s → content ≡ Closed → s ≡ None
 closed_view content s view e = sym view ∙ ap slot_state e
@@ -119,3 +119,7 @@ copying_view content s copier view e = sym (ap slot_state e) ∙ view
 pub runs_there : (d c : Context) (result b : Bool) → d ≡ c → result ≡ is_some d.running → result ≡ b → is_some c.running ≡ b
 runs_there d c result b e r t =
     sym (ap (λ (x : Context). is_some x.running) e) ∙ (sym r ∙ t)
+
+pub fits_inside : (s : Slot) (c d : Context) (hold : HoldState) → Some c ≡ s → d ≡ c → FitsSlot s hold → FitsContext d hold
+fits_inside s c d hold view e f =
+    subst (λ (x : Context). FitsContext x hold) (sym e) (subst (λ (x : Slot). FitsSlot x hold) (sym view) f)

@@ -151,6 +151,11 @@ abbrev pub RunsInSlot : Slot → JobData → Type 0
 RunsInSlot None j = ⊥
 RunsInSlot (Some c) j = RunsIn c j
 
+-- a job with the data runs in the slot, where there are any
+abbrev pub RunsWith : Slot → Option JobData → Type 0
+RunsWith s None = ⊥
+RunsWith s (Some j) = RunsInSlot s j
+
 -- what is brought back is of the job that runs in the slot
 abbrev pub IsOfSlot : Slot → Finished → Type 0
 IsOfSlot None finished = ⊥
@@ -160,6 +165,13 @@ IsOfSlot (Some c) finished = IsOfContext c finished
 pub record HasJob (core : CoreState) (worker k : ℕ) (j : JobData) : Type 0 where
   pub of_slot : job_of core worker ≡ Some k
   pub data_there : RunsInSlot (slot_of core k) j
+
+-- The job is the one that the worker has.
+pub record IsJobOfWorker (core : CoreState) (worker : ℕ) (job : Job) : Type 0 where
+  pub slot : ℕ
+  pub given : JobData
+  pub has : HasJob core worker slot given
+  pub is_of : IsJobOf slot given job
 
 -- What is brought back is of the job that the worker has.
 pub record IsOfWorker (core : CoreState) (worker : ℕ) (finished : Finished) : Type 0 where

@@ -4,11 +4,14 @@ ghost use Rattle.std.specs.Prelude.{◌≡◌, ℕ, true, false, Some, None, Lis
 ghost use Rattle.vc_base.specs.declared.Reply.TheVariants.{Refused};
 ghost use Rattle.vc_base.specs.declared.Errno.TheVariants.{NoMem};
 ghost use Rattle.vc_base.specs.declared.Call.TheVariants.{Open, Close};
-ghost use Rattle.vc_model.specs.Core.{BroughtBack, claimed_in};
+ghost use Rattle.vc_model.specs.Core.{BroughtBack, claimed_in, before_memory, unless_memory};
+ghost use Rattle.vc_model.specs.Answer.{closed_answer};
+ghost use Rattle.vc_core.specs.Steps.{TakesMemory};
 ghost use Rattle.vc_model.specs.Runs.{is_claimable};
 ghost use Rattle.vc_model.specs.Context.{fresh_context};
 ghost use Rattle.vc_core.specs.Contexts.{IsKeptSlot, IsStepOfSlot, SlotHasRoom, IsAnswer, opened_kind, is_close, claimed_slot, finished_slot};
-ghost use Rattle.vc_core.specs.Jobs.{IsJobWith, IsOfSlot, RunsInSlot, Brings};
+ghost use Rattle.vc_core.specs.Jobs.{IsJobWith, RunsWith, IsOfSlot, RunsInSlot, Brings};
+ghost use Rattle.vc_queue.specs.Holds.{HoldState};
 ghost use Rattle.vc_core.specs.Payloads.{FitsSlot, Moves, handed_over};
 
 use crate::copier::Copier;
@@ -55,6 +58,18 @@ fn is_close(call: &Call) -> bool
     ensures { result ≡ is_close call.now }
 {
     matches!(call, Call::Close)
+}
+
+/// What a closed slot answers before memory is sought.
+fn closed_refusal(call: &Call) -> Option<Reply>
+    ensures { result ≡ unless_memory (closed_answer call.now false).reply }
+{
+    match opened_kind(call) {
+        Some(_) => None,
+        None => Some(Reply::Refused {
+            errno: Errno::NoTty,
+        }),
+    }
 }
 
 /// The reply where no memory is found.
@@ -154,6 +169,17 @@ impl Slot {
         Reply::Done
     }
 
+    /// What Open, ReqBufs or CreateBufs answers before memory is sought.
+    pub(crate) fn refusal(&self, call: &Call) -> Option<Reply>
+        requires { TakesMemory call.now }
+        ensures { result ≡ before_memory self.now call.now }
+    {
+        match &self.content {
+            Content::Closed => closed_refusal(call),
+            Content::Copying(copier) => copier.refusal(call),
+        }
+    }
+
     /// Whether a job of the slot can be claimed.
     pub(crate) fn is_claimable(&self) -> bool
         ensures { result ≡ is_claimable self.now }
@@ -172,6 +198,8 @@ impl Slot {
         ensures step { IsStepOfSlot self.old self.new }
         ensures job { IsJobWith slot (claimed_in self.old) result }
         ensures taken { is_claimable self.new ≡ false }
+        ensures runs { RunsWith self.new (claimed_in self.old) }
+        ensures holds { (hold : HoldState) → FitsSlot self.old hold → FitsSlot self.new hold }
     {
         let Content::Copying(copier) = &mut self.content else {
             unreachable!()
@@ -185,6 +213,7 @@ impl Slot {
         requires room { SlotHasRoom self.old }
         requires back { IsOfSlot self.old finished }
         ensures after { (k : ℕ) (back : BroughtBack) → RunsInSlot self.old back.job → Brings k back finished → self.new ≡ finished_slot self.old back }
+        ensures holds { (hold : HoldState) → FitsSlot self.old hold → FitsSlot self.new hold }
         ensures step { IsStepOfSlot self.old self.new }
     {
         let Content::Copying(copier) = &mut self.content else {

@@ -1,5 +1,6 @@
 use Rattle.std.proofs.Common.{arith, ◌≤◌, length}
-use Rattle.vc_core.proofs.Claiming.{claim_after, claim_given, claimed_is, is_taken, claim_step, source_there, dest_there, no_source, no_dest, source_filled}
+use Rattle.vc_core.proofs.Claiming.{claim_runs, claim_after, claim_given, claimed_is, is_taken, claim_step, source_there, dest_there, no_source, no_dest, source_filled}
+use Rattle.vc_core.proofs.Fitting.{claim_holds}
 use Rattle.vc_core.proofs.copier.Copier.claim.Goals as goal
 
 pub returns-clause-after : goal.returns-clause-after
@@ -37,3 +38,11 @@ lend-dest-requires-clause-ready c =
 pub lend-dest-requires-clause-none_lent : goal.lend-dest-requires-clause-none_lent
 lend-dest-requires-clause-none_lent c =
     no_dest c.self.inside.size c.self.inside.out c.self.inside.cap c.self.inside.running c.args.self.now c.self.view_is c.requires.due c.requires.kept
+
+pub returns-clause-runs : goal.returns-clause-runs
+returns-clause-runs c =
+    claim_runs c.self.inside.size c.self.inside.out c.self.inside.cap c.self.inside.running c.args.self.now c.self.view_is c.requires.due _ _ c.lend-source.ensures.after c.lend-dest.ensures.after
+
+pub returns-clause-holds : goal.returns-clause-holds
+returns-clause-holds c hold f =
+    claim_holds c.self.inside.size c.self.inside.out c.self.inside.cap c.self.inside.running c.args.self.now c.self.view_is _ _ hold c.lend-source.ensures.after c.lend-dest.ensures.after f

@@ -1,0 +1,13 @@
+//! Laws of cores and jobs.
+
+ghost use Rattle.vc_core.specs.Laws.{JobsAreThere, WritingFits};
+
+/// Where a core stands for a history, the job of a worker is in its slot with the data of the history.
+pub fn jobs_are_there()
+    ensures { JobsAreThere }
+{}
+
+/// A hold that fits a slot goes on fitting while its user writes into it.
+pub fn writing_fits()
+    ensures { WritingFits }
+{}
