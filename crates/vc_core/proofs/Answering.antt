@@ -1,9 +1,8 @@
 -- The answer of a copying context to any call.
-use Rattle.std.proofs.Common.{ℕ, ◌≡◌, Bool, true, false, Option, Some, None, List, [], refl, sym, ap, ◌∙◌, subst}
+use Rattle.std.proofs.Common.{ℕ, ◌≡◌, Bool, true, false, refl, sym, subst}
 use Rattle.std.proofs.lemmas.Bool.{false≢true}
-use Rattle.vc_base.specs.declared.Errno.TheVariants.{NoEnt, Inval, NoTty}
+use Rattle.vc_base.specs.declared.Errno.TheVariants.{NoEnt}
 use Rattle.vc_base.specs.declared.Reply.{Reply}
-use Rattle.vc_base.specs.declared.Reply.TheVariants.{Refused}
 use Rattle.vc_base.specs.Buffers.{QueueState}
 use Rattle.vc_model.specs.Context.{Context}
 use Rattle.vc_model.specs.Answer.{Answer, dqevent_answer}

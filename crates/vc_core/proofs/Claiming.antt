@@ -1,18 +1,16 @@
 -- A claim on a copying context.
-use Rattle.std.proofs.Common.{ℕ, zero, suc, ◌≡◌, ◌<◌, ◌≤◌, ◌+◌, leb, Bool, true, false, not, ◌&&◌, ◌||◌, Option, Some, None, List, [], ◌∷◌, map, length, refl, sym, ap, ◌∙◌, subst, arith, leb-true}
+use Rattle.std.proofs.Common.{ℕ, ◌≡◌, ◌≤◌, leb, Bool, true, false, not, ◌&&◌, ◌||◌, Some, List, [], ◌∷◌, map, length, refl, sym, ap, ◌∙◌, subst, arith, leb-true}
 use Rattle.std.specs.Prelude.{is_some, is_none}
 use Rattle.std.proofs.lemmas.Bool.{false≢true, and_parts}
-use Rattle.vc_base.specs.declared.Side.{Side}
-use Rattle.vc_base.specs.declared.Side.TheVariants.{Out, Cap}
 use Rattle.vc_base.specs.Buffers.{Buffer, QueueState, is_empty, lend_after, lend_front, without_bytes, without_job_bytes}
-use Rattle.vc_model.specs.Context.{Context, Slot, copy}
+use Rattle.vc_model.specs.Context.{Context, copy}
 use Rattle.vc_model.specs.Runs.{is_claimable, after_claim, claim_front, running_of, job_data, source_of}
 use Rattle.vc_model.specs.Standing.{without_job, job_in}
 use Rattle.vc_model.specs.Core.{claimed_in}
 use Rattle.vc_queue.specs.declared.queue.Lent.{Lent}
 use Rattle.vc_queue.specs.Lending.{IsLent, IsLentFrom}
 use Rattle.vc_queue.specs.Releasing.{front_ordinal}
-use Rattle.vc_core.specs.Contexts.{data_bytes, copier_state, job_mark, AreFilled, has_work, IsKept, IsCounted, IsStep}
+use Rattle.vc_core.specs.Contexts.{data_bytes, copier_state, job_mark, AreFilled, has_work, IsKept, IsStep}
 use Rattle.vc_core.specs.Jobs.{IsGiven, IsDest, RunsIn, RunsWith, claimed_data}
 
 -- when a job can be claimed

@@ -1,24 +1,23 @@
 -- What a copying context answers.
-use Rattle.std.proofs.Common.{ℕ, zero, suc, ◌≡◌, ◌<◌, ◌≤◌, ltb, leb, eqb, Bool, true, false, cond, not, ◌&&◌, ◌||◌, Option, Some, None, Result, Ok, Err, List, [], ◌∷◌, ◌++◌, refl, sym, ap, ◌∙◌, subst, arith}
+use Rattle.std.proofs.Common.{ℕ, zero, suc, ◌≡◌, ◌<◌, ◌≤◌, Bool, true, false, cond, not, ◌&&◌, Option, Some, None, Result, List, [], ◌∷◌, ◌++◌, refl, sym, ap, ◌∙◌, subst, arith}
 use Rattle.std.specs.Prelude.{slice_get, min, ◌+◌, ◌==◌, is_some, is_none}
 use Rattle.std.specs.List.{filter}
 use Rattle.std.specs.Option.{ok_or}
 use Rattle.std.proofs.lemmas.Bool.{false≢true}
 use Rattle.vc_base.specs.declared.Side.{Side}
 use Rattle.vc_base.specs.declared.Side.TheVariants.{Out, Cap}
-use Rattle.vc_base.specs.declared.Kind.TheVariants.{Copy}
 use Rattle.vc_base.specs.declared.Errno.{Errno}
-use Rattle.vc_base.specs.declared.Errno.TheVariants.{NoEnt, Again, NoMem, Busy, Inval, NoTty, Pipe}
-use Rattle.vc_base.specs.declared.Call.TheVariants.{QBuf, DqBuf}
+use Rattle.vc_base.specs.declared.Errno.TheVariants.{Again, Inval, Pipe}
+use Rattle.vc_base.specs.declared.Call.TheVariants.{QBuf}
 use Rattle.vc_base.specs.declared.Reply.{Reply}
-use Rattle.vc_base.specs.declared.Reply.TheVariants.{Done, Desc, Fmt, Refused, Blocked, Count, Created}
+use Rattle.vc_base.specs.declared.Reply.TheVariants.{Done, Desc, Fmt, Refused, Count, Created}
 use Rattle.vc_base.specs.declared.Stamp.{Stamp}
 use Rattle.vc_base.specs.declared.Format.{Format}
 use Rattle.vc_base.specs.declared.Fourcc.{Fourcc}
-use Rattle.vc_base.specs.Buffers.{Buffer, QueueState, is_empty, refuse_if, buffer_count, reqbufs_refusal, reqbufs_after, create_refusal, create_after, created, querybuf_reply, qbuf_refusal, qbuf_after, queue_held, queued_buffer, held_refusal, dqbuf_refusal, dqbuf_after, take_front, streamon_refusal, streamon_after, streamoff_after}
+use Rattle.vc_base.specs.Buffers.{Buffer, QueueState, is_empty, refuse_if, buffer_count, reqbufs_refusal, reqbufs_after, create_refusal, create_after, created, querybuf_reply, qbuf_refusal, qbuf_after, queue_held, queued_buffer, dqbuf_refusal, dqbuf_after, streamon_refusal, streamon_after, streamoff_after}
 use Rattle.vc_model.specs.Formats.{FormatPair, formats_for, formats_listed, data_format}
 use Rattle.vc_model.specs.Context.{Context, settle, settle_drain, settle_owed, queue_of, format_of}
-use Rattle.vc_model.specs.Answer.{Answer, desc_answer, answered, unless, if_found, refused, query_answer, set_answer, set_refusal, reqbufs_answer, create_answer, qbuf_answer, dqbuf_answer, taken_answer, unless_or_block, streamon_answer, streamoff_answer}
+use Rattle.vc_model.specs.Answer.{desc_answer, answered, unless, if_found, query_answer, set_answer, set_refusal, reqbufs_answer, create_answer, qbuf_answer, dqbuf_answer, taken_answer, unless_or_block, streamon_answer, streamoff_answer}
 use Rattle.vc_queue.specs.Answers.{answer_of, after_of, front_taken, queued_bytes}
 use Rattle.vc_queue.specs.Growing.{with_memory, AnswersWithMemory}
 use Rattle.vc_queue.specs.Holds.{HoldState}

@@ -1,20 +1,18 @@
 -- The steps of a core, as its fields change.
-use Rattle.std.proofs.Common.{ℕ, zero, suc, ◌≡◌, ◌<◌, ◌≤◌, ◌+◌, ◌^◌, ltb, eqb, nat_eq, Bool, true, false, not, ◌||◌, cond, Option, Some, None, List, [], ◌∷◌, ◌++◌, length, get_or, set, length-set, get_or-set_same, get_or-set_other, ⊎_elim, inl, inr, ◌⊎◌, eqb-true, ltb-true, ltb-false, refl, sym, ap, ◌∙◌, subst, arith}
-use Rattle.std.specs.Prelude.{◌==◌, is_none, is_some}
+use Rattle.std.proofs.Common.{ℕ, zero, suc, ◌≡◌, ◌<◌, ◌≤◌, ◌+◌, ◌^◌, ltb, eqb, Bool, true, false, not, ◌||◌, cond, Option, Some, None, List, [], ◌∷◌, ◌++◌, length, get_or, set, length-set, get_or-set_same, get_or-set_other, ⊎_elim, inl, inr, ◌⊎◌, eqb-true, ltb-true, ltb-false, refl, sym, ap, ◌∙◌, subst, arith}
+use Rattle.std.specs.Prelude.{◌==◌, is_some}
 use Rattle.std.specs.List.{filter, list_any}
 use Rattle.std.proofs.lemmas.Bool.{false≢true, cases_eq}
 use Rattle.vc_base.specs.declared.Call.{Call}
 use Rattle.vc_base.specs.declared.Reply.{Reply}
-use Rattle.vc_base.specs.declared.Reply.TheVariants.{Refused, Blocked}
-use Rattle.vc_base.specs.declared.Errno.TheVariants.{NoMem}
+use Rattle.vc_base.specs.declared.Reply.TheVariants.{Blocked}
 use Rattle.vc_model.specs.Context.{Context, Slot, Running}
-use Rattle.vc_model.specs.Runs.{JobData, is_claimable, after_claim}
-use Rattle.vc_model.specs.Answer.{Answer, answer}
-use Rattle.vc_model.specs.Solo.{Answered, Claimed, Finished}
-use Rattle.vc_model.specs.Devices.{DeviceState, DeviceStep, Told, slot_of, job_of, waiting_after, with_slot, steps_of, counted, call_answered}
+use Rattle.vc_model.specs.Runs.{JobData, is_claimable}
+use Rattle.vc_model.specs.Answer.{answer}
+use Rattle.vc_model.specs.Devices.{DeviceStep, slot_of, job_of, waiting_after, with_slot, steps_of, counted, call_answered}
 use Rattle.vc_model.specs.JobList.{waits}
-use Rattle.vc_model.specs.Standing.{CoreState, without_job}
-use Rattle.vc_model.specs.Core.{BroughtBack, core_call, core_claim, core_claim_first, core_claim_slot, core_finish, core_finish_of, core_finish_slot, core_finish_job, claimed_job, claimed_first, claimed_in, finished_context}
+use Rattle.vc_model.specs.Standing.{CoreState}
+use Rattle.vc_model.specs.Core.{BroughtBack, core_claim, core_claim_first, core_claim_slot, core_finish, core_finish_of, core_finish_slot, core_finish_job, finished_context}
 use Rattle.vc_model.proofs.Listing.{without_other, without_same, behind_front, front_waits}
 use Rattle.vc_model.proofs.Blocking.{blocked_stays}
 use Rattle.vc_queue.specs.Holds.{HoldState}
@@ -22,7 +20,7 @@ use Rattle.vc_jobs.specs.Jobs.{Jobs}
 use Rattle.vc_jobs.specs.Jobs as jobs
 use Rattle.vc_core.specs.declared.job.Job.{Job}
 use Rattle.vc_core.specs.declared.job.Finished as job
-use Rattle.vc_core.specs.Contexts.{IsKeptSlot, IsCountedSlot, IsStepOfSlot, SlotHasRoom, IsCounted, HasRoom, IsAnswer, claimed_slot, finished_slot}
+use Rattle.vc_core.specs.Contexts.{IsKeptSlot, IsCountedSlot, IsStepOfSlot, SlotHasRoom, IsAnswer, claimed_slot, finished_slot}
 use Rattle.vc_core.specs.Jobs.{IsJobWith, RunsWith, HasJob, RunsInSlot, Brings, IsJobOfWorker, IsOfWorker}
 use Rattle.vc_core.specs.Payloads.{handed_over, FitsSlot}
 use Rattle.vc_core.specs.Steps.{IsCall, IsCore, slot_at}

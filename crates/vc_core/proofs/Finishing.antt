@@ -1,19 +1,17 @@
 -- The end of the job of a copying context.
-use Rattle.std.proofs.Common.{ℕ, zero, suc, ◌≡◌, ◌<◌, ◌≤◌, ◌+◌, Bool, true, false, Option, Some, None, List, [], ◌∷◌, ◌++◌, map, length, take, refl, sym, ap, ◌∙◌, subst, arith}
+use Rattle.std.proofs.Common.{ℕ, ◌≡◌, ◌+◌, Bool, true, false, Option, Some, None, List, [], ◌∷◌, ◌++◌, length, take, refl, sym, ap, ◌∙◌, subst}
 use Rattle.vc_base.specs.declared.Side.{Side}
 use Rattle.vc_base.specs.declared.Side.TheVariants.{Out, Cap}
 use Rattle.vc_base.specs.declared.Stamp.{Stamp}
-use Rattle.vc_base.specs.Buffers.{Buffer, QueueState, without_bytes, retire_from, retire_after, known_bytes, error_flag}
+use Rattle.vc_base.specs.Buffers.{Buffer, QueueState, retire_from, retire_after, known_bytes, error_flag}
 use Rattle.vc_model.specs.Coder.{CodecState, no_codec, encoder, decoder}
 use Rattle.vc_model.specs.Context.{Context, settle}
 use Rattle.vc_model.specs.Runs.{JobData, dest_done, RunResult, copied, encoded, decoded}
 use Rattle.vc_model.specs.Core.{BroughtBack, back_effect, finished_context}
 use Rattle.vc_queue.specs.declared.queue.Lent.{Lent}
-use Rattle.vc_work.specs.declared.engine.Outcome.{Outcome}
-use Rattle.vc_work.specs.declared.engine.Outcome.TheVariants.{Copied}
 use Rattle.vc_core.specs.declared.job.Finished.{Finished}
 use Rattle.vc_core.specs.Contexts.{copier_state, IsKept}
-use Rattle.vc_core.specs.Jobs.{Brings, RunsIn, IsReturned, IsDestReturned, IsResult, IsCopied, HasNoCodec, brought_used, brought_flags}
+use Rattle.vc_core.specs.Jobs.{Brings, IsReturned, IsDestReturned, IsResult, IsCopied, HasNoCodec, brought_used, brought_flags}
 use Rattle.vc_core.proofs.Copying.{settled}
 
 -- the codec of a copying context

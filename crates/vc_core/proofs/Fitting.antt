@@ -1,5 +1,5 @@
 -- A hold that fits a slot goes on fitting while its user writes into it, and while jobs come and go.
-use Rattle.std.proofs.Common.{ℕ, zero, suc, ◌≡◌, ◌<◌, ◌≤◌, ◌+◌, ◌++◌, Bool, true, false, Option, Some, None, List, [], ◌∷◌, length, drop, get_or, set, refl, sym, ap, ◌∙◌, subst, arith, length-append, length-drop}
+use Rattle.std.proofs.Common.{ℕ, zero, suc, ◌≡◌, ◌++◌, Bool, true, false, Option, Some, None, List, [], ◌∷◌, length, drop, get_or, set, refl, sym, ap, ◌∙◌, subst, arith, length-append, length-drop}
 use Rattle.std.specs.Option.{option_map}
 use Rattle.vc_base.specs.declared.Side.{Side}
 use Rattle.vc_base.specs.declared.Side.TheVariants.{Out, Cap}
@@ -9,7 +9,7 @@ use Rattle.vc_model.specs.Context.{Context, Slot}
 use Rattle.vc_queue.specs.Holds.{HoldState, Fits, held_payload, with_payload, HasRoom, written_over}
 use Rattle.vc_queue.proofs.Keeping.{fits_lent, fits_retired}
 use Rattle.vc_core.specs.Contexts.{copier_state}
-use Rattle.vc_core.specs.Payloads.{HoldsNothing, FitsContext, FitsSlot}
+use Rattle.vc_core.specs.Payloads.{FitsContext, FitsSlot}
 
 written_length : (o : Option (List ℕ)) (bytes : List ℕ) → HasRoom o bytes → option_map length (written_over o bytes) ≡ option_map length o
 written_length None bytes h = absurd h

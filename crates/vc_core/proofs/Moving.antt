@@ -1,5 +1,5 @@
 -- What DqBuf of a copying context does to the payloads of the user.
-use Rattle.std.proofs.Common.{ℕ, ◌≡◌, ◌<◌, Bool, true, false, not, Option, Some, None, Result, List, [], ◌∷◌, length, refl, sym, ap, ◌∙◌, subst}
+use Rattle.std.proofs.Common.{ℕ, ◌≡◌, Bool, true, false, not, Option, Some, None, Result, List, [], ◌∷◌, length, refl, sym, ap, ◌∙◌, subst}
 use Rattle.std.specs.Option.{option_map}
 use Rattle.vc_base.specs.declared.Side.{Side}
 use Rattle.vc_base.specs.declared.Side.TheVariants.{Out, Cap}

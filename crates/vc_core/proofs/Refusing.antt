@@ -1,5 +1,5 @@
 -- What is answered before memory is sought.
-use Rattle.std.proofs.Common.{ℕ, ◌≡◌, Bool, true, false, Option, Some, None, List, [], refl}
+use Rattle.std.proofs.Common.{ℕ, ◌≡◌, Bool, true, false, Option, Some, None, [], refl}
 use Rattle.std.specs.Option.{option_map}
 use Rattle.vc_base.specs.declared.Errno.{Errno}
 use Rattle.vc_base.specs.declared.Errno.TheVariants.{NoMem, Busy, Inval, NoTty}
@@ -11,7 +11,7 @@ use Rattle.vc_base.specs.declared.Reply.{Reply}
 use Rattle.vc_base.specs.declared.Reply.TheVariants.{Refused}
 use Rattle.vc_base.specs.Buffers.{refuse_if}
 use Rattle.vc_model.specs.Context.{Context, Slot}
-use Rattle.vc_model.specs.Answer.{Answer, answer, closed_answer, context_answer, unless, refused}
+use Rattle.vc_model.specs.Answer.{answer, closed_answer, context_answer, unless, refused}
 use Rattle.vc_model.specs.Core.{unless_memory, before_memory}
 use Rattle.vc_core.specs.Contexts.{opened_kind}
 use Rattle.vc_core.specs.Steps.{TakesMemory}

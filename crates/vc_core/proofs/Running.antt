@@ -1,16 +1,15 @@
 -- What a run of a job brings back.
-use Rattle.std.proofs.Common.{ℕ, zero, suc, ◌≡◌, ◌<◌, ◌≤◌, ◌+◌, Bool, true, false, Option, Some, None, Result, Ok, Err, List, [], ◌∷◌, ◌++◌, map, length, take, drop, refl, sym, ap, ◌∙◌, subst, arith, length-take, take-take}
-use Rattle.std.specs.Prelude.{min, vec_len, is_none}
+use Rattle.std.proofs.Common.{ℕ, ◌≡◌, ◌≤◌, Bool, Option, Some, None, Result, Ok, Err, List, [], ◌∷◌, ◌++◌, length, take, drop, refl, sym, ap, ◌∙◌, subst, arith, length-take, take-take}
+use Rattle.std.specs.Prelude.{min, is_none}
 use Rattle.std.specs.Option.{option_map}
 use Rattle.std.proofs.lemmas.List.{take-append-le}
 use Rattle.std.specs.Result.{result_ok, IfOk}
 use Rattle.vc_base.specs.Buffers.{Buffer}
-use Rattle.vc_model.specs.Coder.{Coder, CodecState, no_codec, encoder, decoder, the_coder}
+use Rattle.vc_model.specs.Coder.{CodecState, no_codec, encoder, decoder, the_coder}
 use Rattle.vc_model.specs.Context.{RunSort, copy, encode, decode, probe}
-use Rattle.vc_model.specs.Runs.{JobData, RunResult, copied, run_result, run_of, dest_size}
+use Rattle.vc_model.specs.Runs.{JobData, run_result, run_of, dest_size}
 use Rattle.vc_model.specs.Core.{brought_back, result_of}
 use Rattle.vc_queue.specs.declared.queue.Lent.{Lent}
-use Rattle.vc_queue.specs.Lending.{IsLent}
 use Rattle.vc_work.specs.declared.work.Sort.{Sort}
 use Rattle.vc_work.specs.declared.work.Sort.TheVariants as sort
 use Rattle.vc_work.specs.declared.work.Work.{Work}
@@ -20,7 +19,7 @@ use Rattle.vc_work.specs.declared.engine.EngineFault.{EngineFault}
 use Rattle.vc_work.specs.Runs.{IsRun, Does, IsCopied as IsCopiedWork, KeepsLengths, dest_bytes, copied_over, copied_length}
 use Rattle.vc_core.specs.declared.job.Job.{Job}
 use Rattle.vc_core.specs.declared.job.Finished.{Finished}
-use Rattle.vc_core.specs.Jobs.{IsJobOf, IsBrought, Brings, IsSort, IsDest, IsReturned, IsDestReturned, IsResult, IsCopied, HasNoCodec, is_fault}
+use Rattle.vc_core.specs.Jobs.{IsJobOf, IsBrought, Brings, IsSort, IsDest, IsDestReturned, IsResult, IsCopied, HasNoCodec, is_fault}
 
 sort_copies : (s : RunSort) (codec : CodecState) (mine : Sort) → IsSort s codec mine → (s ≡ copy) × HasNoCodec codec
 sort_copies copy no_codec sort.Copy h = (refl, tt)

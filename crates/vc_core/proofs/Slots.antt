@@ -1,10 +1,9 @@
 -- What a slot answers.
-use Rattle.std.proofs.Common.{Box, Global, ℕ, zero, suc, ◌≡◌, ◌<◌, ◌≤◌, ◌+◌, Bool, true, false, cond, Option, Some, None, List, [], ◌∷◌, length, get_or, refl, sym, ap, ◌∙◌, subst, arith}
+use Rattle.std.proofs.Common.{Box, Global, ℕ, zero, suc, ◌≡◌, Bool, true, false, cond, Option, Some, None, List, [], length, get_or, refl, sym, ap, ◌∙◌, subst}
 use Rattle.std.specs.Prelude.{is_some, is_none, replicate}
 use Rattle.std.specs.Option.{option_map}
 use Rattle.std.proofs.lemmas.Bool.{false≢true}
 use Rattle.vc_base.specs.declared.Kind.{Kind}
-use Rattle.vc_base.specs.declared.Side.TheVariants.{Out, Cap}
 use Rattle.vc_base.specs.declared.Errno.TheVariants.{NoMem, NoTty}
 use Rattle.vc_base.specs.declared.Call.{Call}
 use Rattle.vc_base.specs.declared.Call.TheVariants.{Open, Close}
@@ -14,7 +13,6 @@ use Rattle.vc_model.specs.Context.{Context, Slot, Running, fresh_context}
 use Rattle.vc_model.specs.Answer.{Answer, answer, closed_answer, context_answer, unchanged}
 use Rattle.vc_model.specs.Runs.{is_claimable}
 use Rattle.vc_queue.specs.Holds.{HoldState}
-use Rattle.vc_queue.specs.Payloads.{payload_at}
 use Rattle.vc_core.specs.declared.slot.Content.{Content}
 use Rattle.vc_core.specs.declared.slot.Content.TheVariants.{Closed, Copying}
 use Rattle.vc_core.specs.declared.copier.Copier.{Copier}

@@ -1,19 +1,18 @@
 -- What a call makes of the queues of a copying context: they stay kept, and their numbers count up by one
 -- at most.
-use Rattle.std.proofs.Common.{ℕ, ◌≡◌, ◌<◌, ◌≤◌, ◌+◌, ltb, leb, nat_le, eqb, Bool, true, false, cond, not, ◌&&◌, ◌||◌, Option, Some, None, List, [], ◌∷◌, ◌++◌, map, refl, sym, ap, ◌∙◌, subst, arith}
+use Rattle.std.proofs.Common.{ℕ, ◌≡◌, ◌≤◌, ◌+◌, ltb, leb, nat_le, Bool, true, false, Option, Some, None, List, [], ◌∷◌, ◌++◌, refl, sym, ◌∙◌, subst, arith}
 use Rattle.std.specs.Prelude.{nat_lt}
 use Rattle.std.specs.List.{list_all}
-use Rattle.std.proofs.lemmas.Bool.{false≢true, and_parts, and_from}
+use Rattle.std.proofs.lemmas.Bool.{and_parts, and_from}
 use Rattle.vc_base.specs.declared.Side.{Side}
-use Rattle.vc_base.specs.declared.Side.TheVariants.{Out, Cap}
+use Rattle.vc_base.specs.declared.Side.TheVariants.{Out}
 use Rattle.vc_base.specs.declared.Errno.{Errno}
-use Rattle.vc_base.specs.declared.Errno.TheVariants.{Inval, Pipe, Again}
+use Rattle.vc_base.specs.declared.Errno.TheVariants.{Inval}
 use Rattle.vc_base.specs.declared.Stamp.{Stamp}
-use Rattle.vc_base.specs.Buffers.{Buffer, QueueState, is_empty, is_out, refuse_if, reqbufs_after, create_after, qbuf_refusal, qbuf_after, queue_held, queued_buffer, with_index, held_refusal, dqbuf_refusal, dqbuf_after, take_front}
+use Rattle.vc_base.specs.Buffers.{Buffer, QueueState, refuse_if, reqbufs_after, create_after, qbuf_refusal, qbuf_after, queue_held, queued_buffer, with_index, held_refusal, dqbuf_after, take_front}
 use Rattle.vc_model.specs.Context.{Context}
-use Rattle.vc_queue.specs.Answers.{answer_of, after_of}
-use Rattle.vc_queue.specs.Growing.{with_memory}
-use Rattle.vc_core.specs.Contexts.{AreFilled, copier_state, IsKept, IsCounted, IsStep}
+use Rattle.vc_queue.specs.Answers.{after_of}
+use Rattle.vc_core.specs.Contexts.{AreFilled, copier_state, IsKept, IsStep}
 
 -- what a call makes of one queue
 pub record Goes (old new : QueueState) : Type 0 where

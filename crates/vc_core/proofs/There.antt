@@ -1,17 +1,17 @@
 -- The job of a worker, in a core that stands for a history.
-use Rattle.std.proofs.Common.{ℕ, zero, suc, ◌≡◌, ◌<◌, ◌≤◌, Bool, true, false, Option, Some, None, List, [], ◌∷◌, map, length, get_or, take, refl, sym, ap, ◌∙◌, subst, arith}
+use Rattle.std.proofs.Common.{ℕ, zero, suc, ◌≡◌, true, Option, Some, None, List, [], ◌∷◌, map, length, get_or, take, refl, sym, ap, ◌∙◌, subst, arith}
 use Rattle.std.specs.Prelude.{is_some}
 use Rattle.std.specs.Option.{option_map}
-use Rattle.vc_base.specs.Buffers.{Buffer, without_bytes, without_job_bytes}
+use Rattle.vc_base.specs.Buffers.{Buffer, without_bytes}
 use Rattle.vc_model.specs.Context.{Context, Slot, Running}
 use Rattle.vc_model.specs.Runs.{JobData, job_data, source_of}
 use Rattle.vc_model.specs.Devices.{DeviceState, new_device, slot_of, job_of, device_after}
-use Rattle.vc_model.specs.Standing.{CoreState, without_data, without_job, core_slot, core_of, job_in, job_in_slot, worker_job}
+use Rattle.vc_model.specs.Standing.{CoreState, without_data, without_job, core_slot, job_in, job_in_slot}
 use Rattle.vc_model.specs.CoreSound.{HasJobs, IsSoundCoreSlot}
 use Rattle.vc_model.proofs.Hiding.{without_some}
 use Rattle.vc_model.proofs.Standing.{core_slot_at}
 use Rattle.vc_model.proofs.CoreSound.{cores_are_sound}
-use Rattle.vc_core.specs.Jobs.{RunsIn, RunsInSlot, HasJob}
+use Rattle.vc_core.specs.Jobs.{RunsIn, RunsInSlot}
 use Rattle.vc_core.specs.Laws.{JobsAreThere}
 
 -- the front of a list has what the list has

@@ -1,5 +1,5 @@
 -- The content of a slot, as the model has it.
-use Rattle.std.specs.Prelude.{Option, Some, None}
+use Rattle.std.specs.Prelude.{Some, None}
 use Rattle.vc_model.specs.Context.{Slot}
 use Rattle.vc_core.specs.declared.slot.Content.{Content}
 use Rattle.vc_core.specs.declared.slot.Content.TheVariants.{Closed, Copying}

@@ -2,16 +2,15 @@
 use Rattle.std.specs.Prelude.{ℕ, ◌≡◌, ◌≤◌, ◌<◌, ◌+◌, ◌^◌, nat_le, Bool, true, false, not, ◌&&◌, Option, Some, None, Result, Ok, Err, List, []}
 use Rattle.std.specs.List.{list_all}
 use Rattle.std.specs.Option.{option_map}
-use Rattle.vc_base.specs.declared.Side.{Side}
 use Rattle.vc_base.specs.declared.Side.TheVariants.{Out, Cap}
 use Rattle.vc_base.specs.declared.Kind.{Kind}
 use Rattle.vc_base.specs.declared.Kind.TheVariants.{Copy}
 use Rattle.vc_base.specs.declared.Errno.{Errno}
-use Rattle.vc_base.specs.declared.Errno.TheVariants.{NoEnt, Again, NoMem, Busy, Inval, NoTty, Pipe}
+use Rattle.vc_base.specs.declared.Errno.TheVariants.{NoEnt, Again, NoMem}
 use Rattle.vc_base.specs.declared.Call.{Call}
 use Rattle.vc_base.specs.declared.Call.TheVariants.{Open, Close}
 use Rattle.vc_base.specs.declared.Reply.{Reply}
-use Rattle.vc_base.specs.declared.Reply.TheVariants.{Done, Refused, Blocked}
+use Rattle.vc_base.specs.declared.Reply.TheVariants.{Refused, Blocked}
 use Rattle.vc_base.specs.declared.Format.{Format}
 use Rattle.vc_base.specs.Buffers.{Buffer, QueueState, is_empty}
 use Rattle.vc_base.specs.Events.{no_events}

@@ -1,12 +1,12 @@
 -- What a job has, and what is brought back of it.
-use Rattle.std.specs.Prelude.{ℕ, ◌≡◌, ◌≤◌, min, length, take, map, is_none, codes, Bool, true, false, is_some, Option, Some, None, List, [], ◌∷◌}
+use Rattle.std.specs.Prelude.{ℕ, ◌≡◌, ◌≤◌, length, take, map, is_none, Bool, true, false, is_some, Option, Some, None, List, [], ◌∷◌}
 use Rattle.vc_base.specs.declared.Format.{Format}
 use Rattle.vc_base.specs.declared.Stamp.{Stamp}
 use Rattle.vc_base.specs.Counts.{OneMore, Rose}
 use Rattle.vc_base.specs.Buffers.{Buffer, without_bytes, error_flag}
 use Rattle.vc_defs.specs.Encoder.{RunRates}
 use Rattle.vc_model.specs.Coder.{CodecState, no_codec, encoder, decoder}
-use Rattle.vc_model.specs.Context.{Context, Slot, RunSort, copy, encode, decode, probe, Running}
+use Rattle.vc_model.specs.Context.{Context, Slot, RunSort, copy}
 use Rattle.vc_model.specs.Runs.{JobData, job_data, after_claim, running_of, RunResult, copied, encoded, decoded}
 use Rattle.vc_model.specs.Core.{BroughtBack}
 use Rattle.vc_model.specs.Standing.{CoreState}

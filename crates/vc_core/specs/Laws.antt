@@ -1,5 +1,5 @@
 -- Laws of cores and jobs.
-use Rattle.std.specs.Prelude.{ℕ, ◌≡◌, Option, Some, List}
+use Rattle.std.specs.Prelude.{ℕ, ◌≡◌, Some, List}
 use Rattle.vc_base.specs.Device.{DeviceEvent}
 use Rattle.vc_base.specs.declared.Side.{Side}
 use Rattle.vc_model.specs.Coder.{Coder}

@@ -1,5 +1,5 @@
 -- What a call does to the payloads that the user holds.
-use Rattle.std.specs.Prelude.{ℕ, ◌≡◌, ◌++◌, length, take, replicate, Option, Some, None, List, [], ◌∷◌}
+use Rattle.std.specs.Prelude.{ℕ, ◌≡◌, ◌++◌, take, replicate, Some, None, List, [], ◌∷◌}
 use Rattle.vc_base.specs.declared.Side.{Side}
 use Rattle.vc_base.specs.declared.Side.TheVariants.{Out, Cap}
 use Rattle.vc_base.specs.declared.Call.{Call}

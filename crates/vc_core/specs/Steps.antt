@@ -1,5 +1,5 @@
 -- The steps of a core.
-use Rattle.std.specs.Prelude.{ℕ, ◌≡◌, ◌<◌, ◌≤◌, Bool, true, false, get_or, length, Option, Some, None, List, []}
+use Rattle.std.specs.Prelude.{ℕ, ◌≡◌, Bool, true, false, get_or, length, None, List}
 use Rattle.vc_base.specs.declared.Call.{Call}
 use Rattle.vc_base.specs.declared.Call.TheVariants.{Open, ReqBufs, CreateBufs}
 use Rattle.vc_base.specs.declared.Reply.{Reply}
@@ -8,7 +8,7 @@ use Rattle.vc_base.specs.declared.Errno.TheVariants.{NoMem}
 use Rattle.vc_model.specs.Context.{Slot}
 use Rattle.vc_model.specs.Runs.{is_claimable}
 use Rattle.vc_model.specs.Solo.{Answered}
-use Rattle.vc_model.specs.Devices.{DeviceState, Told, slot_of}
+use Rattle.vc_model.specs.Devices.{Told}
 use Rattle.vc_model.specs.JobList.{waits}
 use Rattle.vc_model.specs.Standing.{CoreState}
 use Rattle.vc_model.specs.Core.{core_call}

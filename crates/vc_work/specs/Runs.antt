@@ -3,7 +3,6 @@ use Rattle.std.specs.Prelude.{ℕ, ◌≡◌, ◌≤◌, ◌++◌, length, take,
 use Rattle.std.specs.Option.{option_map}
 use Rattle.vc_work.specs.declared.work.Sort.{Sort}
 use Rattle.vc_work.specs.declared.work.Sort.TheVariants.{Copy}
-use Rattle.vc_work.specs.declared.work.Piece.{Piece}
 use Rattle.vc_work.specs.declared.work.Work.{Work}
 use Rattle.vc_work.specs.declared.engine.Outcome.{Outcome}
 use Rattle.vc_work.specs.declared.engine.Outcome.TheVariants.{Copied}

@@ -1,4 +1,4 @@
-use Rattle.std.proofs.Common.{refl, rules}
+use Rattle.std.proofs.Common.{refl}
 use Rattle.vc_base.specs.declared.Errno.TheVariants.{Busy, NoEnt, NoTty, Inval}
 use Rattle.vc_base.specs.declared.Reply.TheVariants.{Refused}
 use Rattle.vc_model.specs.Answer.{context_answer, refused, dqevent_answer}

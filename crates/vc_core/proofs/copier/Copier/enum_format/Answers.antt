@@ -1,4 +1,3 @@
-use Rattle.std.proofs.Common.{sym, ◌∙◌, rules}
 use Rattle.vc_core.proofs.Copying.{not_listed, is_listed}
 use Rattle.vc_core.proofs.copier.Copier.enum_format.Goals as goal
 

@@ -1,4 +1,4 @@
-use Rattle.std.proofs.Common.{sym, ap, ◌∙◌, not, ◌&&◌, Some, Bool}
+use Rattle.std.proofs.Common.{sym, ap, ◌∙◌, Some}
 use Rattle.vc_model.specs.Context.{Context}
 use Rattle.vc_model.specs.Runs.{is_claimable}
 use Rattle.vc_core.proofs.Claiming.{claimable_is}

@@ -1,4 +1,4 @@
-use Rattle.std.proofs.Common.{sym, ◌∙◌, rules}
+use Rattle.std.proofs.Common.{sym, ◌∙◌}
 use Rattle.vc_core.proofs.Copying.{set_gives}
 use Rattle.vc_core.proofs.copier.Copier.set_format.Goals as goal
 

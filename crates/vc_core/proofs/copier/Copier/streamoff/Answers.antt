@@ -1,4 +1,3 @@
-use Rattle.std.proofs.Common.{rules}
 use Rattle.vc_core.proofs.Copying.{off_out, off_cap}
 use Rattle.vc_core.proofs.copier.Copier.streamoff.Goals as goal
 

@@ -1,4 +1,4 @@
-use Rattle.std.proofs.Common.{arith, ◌≤◌, length, rules}
+use Rattle.std.proofs.Common.{arith, ◌≤◌, length}
 use Rattle.vc_core.proofs.Running.{run_brings}
 use Rattle.vc_core.proofs.job.Job.run.Goals as goal
 

@@ -1,5 +1,4 @@
-use Rattle.std.proofs.Common.{◌≡◌, [], false, Option, subst}
-use Rattle.vc_base.specs.declared.Reply.{Reply}
+use Rattle.std.proofs.Common.{◌≡◌, [], false, subst}
 use Rattle.vc_model.specs.Context.{Context}
 use Rattle.vc_model.specs.Answer.{context_answer}
 use Rattle.vc_model.specs.Core.{unless_memory}
