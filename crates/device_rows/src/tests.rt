@@ -40,14 +40,16 @@ fn has_room(hold: &Hold, bytes: &[u8]) -> bool
     }
 }
 
-/// Puts bytes into the first OUTPUT buffer.
-fn fill(rt: &impl Abort, device: &Core, hold: &mut Hold, bytes: &[u8])
+/// Puts bytes into the first OUTPUT buffer, where it is held and has room for them.
+fn fill(device: &Core, hold: &mut Hold, bytes: &[u8]) -> bool
     requires fits { FitsSlot (slot_of device.now 0) hold.old }
     ensures fits { FitsSlot (slot_of device.now 0) hold.new }
 {
-    let room = has_room(hold, bytes);
-    assert!(rt; room);
-    hold.write(Side::Out, 0, bytes);
+    if has_room(hold, bytes) {
+        hold.write(Side::Out, 0, bytes);
+        return true;
+    }
+    false
 }
 
 /// Whether the payload of the first CAPTURE buffer is held and begins with the two bytes.
@@ -125,7 +127,7 @@ fn streaming(rt: &impl Abort, alloc: Global) -> (Core, Hold)
     let mut device = Core::make(alloc, 1, 1).expect(rt, "memory");
     let mut hold = Hold::new();
     replies(rt, &mut device, &mut hold, &OPENED);
-    fill(rt, &device, &mut hold, &[0, 255]);
+    assert!(rt; fill(&device, &mut hold, &[0, 255]));
     replies(rt, &mut device, &mut hold, &QUEUED);
     (device, hold)
 }
