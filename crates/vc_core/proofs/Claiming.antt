@@ -1,0 +1,144 @@
+-- A claim on a copying context.
+use Rattle.std.proofs.Common.{ℕ, zero, suc, ◌≡◌, ◌<◌, ◌≤◌, ◌+◌, leb, Bool, true, false, not, ◌&&◌, ◌||◌, Option, Some, None, List, [], ◌∷◌, map, length, refl, sym, ap, ◌∙◌, subst, arith, leb-true}
+use Rattle.std.specs.Prelude.{is_some, is_none}
+use Rattle.std.proofs.lemmas.Bool.{false≢true, and_parts}
+use Rattle.vc_base.specs.declared.Side.{Side}
+use Rattle.vc_base.specs.declared.Side.TheVariants.{Out, Cap}
+use Rattle.vc_base.specs.Buffers.{Buffer, QueueState, is_empty, lend_after, lend_front, without_job_bytes}
+use Rattle.vc_model.specs.Context.{Context, Slot, copy}
+use Rattle.vc_model.specs.Runs.{is_claimable, after_claim, claim_front, running_of, job_data, source_of}
+use Rattle.vc_model.specs.Standing.{without_job}
+use Rattle.vc_queue.specs.declared.queue.Lent.{Lent}
+use Rattle.vc_queue.specs.Lending.{IsLent, IsLentFrom}
+use Rattle.vc_queue.specs.Releasing.{front_ordinal}
+use Rattle.vc_core.specs.Contexts.{data_bytes, copier_state, job_mark, AreFilled, has_work, IsKept, IsCounted, IsStep}
+use Rattle.vc_core.specs.Jobs.{IsGiven, IsDest, claimed_data}
+
+-- when a job can be claimed
+
+pub has_front : (bs : List Buffer) → is_some (front_ordinal bs) ≡ not (is_empty bs)
+has_front [] = refl
+has_front (b ∷ rest) = refl
+
+claimable_cases : (r a b d e : Bool) → (is_none (job_mark r) && (false || ((a && b) && ((not d && not e) && true)))) ≡ (not r && ((a && not d) && (b && not e)))
+claimable_cases true a b d e = refl
+claimable_cases false true true true e = refl
+claimable_cases false true true false true = refl
+claimable_cases false true true false false = refl
+claimable_cases false true false true e = refl
+claimable_cases false true false false e = refl
+claimable_cases false false b d e = refl
+
+pub claimable_is : (size : ℕ) (out cap : QueueState) (running : Bool) → is_claimable (Some (copier_state size out cap running)) ≡ (not running && (has_work out && has_work cap))
+unfolding is_claimable
+claimable_is size out cap running =
+    claimable_cases running out.streams cap.streams (is_empty out.ready) (is_empty cap.ready)
+
+-- What a context has whose job can be claimed.
+pub record IsDue (size : ℕ) (out cap : QueueState) (running : Bool) : Type 0 where
+  pub idle : running ≡ false
+  pub source : is_empty out.ready ≡ false
+  pub dest : is_empty cap.ready ≡ false
+
+not_true : (b : Bool) → not b ≡ true → b ≡ false
+not_true true h = absurd (false≢true h)
+not_true false h = refl
+
+pub due : (size : ℕ) (out cap : QueueState) (running : Bool) (c : Context) → copier_state size out cap running ≡ c → is_claimable (Some c) ≡ true → IsDue size out cap running
+due size out cap running c view h =
+    let e = and_parts (not running) (has_work out && has_work cap) (sym (claimable_is size out cap running) ∙ (ap (λ (x : Context). is_claimable (Some x)) view ∙ h)) in
+    let w = and_parts (has_work out) (has_work cap) e.1 in
+    record {
+      idle = not_true running e.0;
+      source = not_true (is_empty out.ready) (and_parts out.streams (not (is_empty out.ready)) w.0).1;
+      dest = not_true (is_empty cap.ready) (and_parts cap.streams (not (is_empty cap.ready)) w.1).1;
+    }
+
+pub not_empty : (bs : List Buffer) → is_empty bs ≡ false → bs ≡ [] → ⊥
+not_empty [] h e = false≢true (sym h)
+not_empty (b ∷ rest) h e = cc
+
+-- the front of ready goes into the job
+
+pub front_filled : (bs : List Buffer) (lent : Lent) → is_empty bs ≡ false → AreFilled bs → IsLentFrom bs lent → lent.used ≤ length lent.payload.items
+front_filled [] lent e f l = absurd (false≢true (sym e))
+front_filled (b ∷ rest) lent e f l =
+    let h : leb b.used b.size ≡ true = (and_parts (leb b.used b.size) _ f).0 in
+    let below : b.used ≤ b.size = leb-true b.used b.size h in
+    omega (arith, l.used, l.size)
+
+lent_side : (q : QueueState) (bs : List Buffer) → (lend_front q bs).side ≡ q.side
+lent_side q [] = refl
+lent_side q (b ∷ rest) = refl
+
+lent_queued : (q : QueueState) (bs : List Buffer) → (lend_front q bs).next_ordinal ≡ q.next_ordinal
+lent_queued q [] = refl
+lent_queued q (b ∷ rest) = refl
+
+lent_seq : (q : QueueState) (bs : List Buffer) → (lend_front q bs).next_seq ≡ q.next_seq
+lent_seq q [] = refl
+lent_seq q (b ∷ rest) = refl
+
+lent_filled : (q : QueueState) (bs : List Buffer) → q.ready ≡ bs → AreFilled bs → AreFilled (lend_front q bs).ready
+lent_filled q [] e f = rw e f
+lent_filled q (b ∷ rest) e f = (and_parts (leb b.used b.size) _ f).1
+
+claimed_front : (size : ℕ) (out cap : QueueState) (running : Bool) (bs : List Buffer) → is_empty bs ≡ false → copier_state size (without_job_bytes (lend_after out)) (without_job_bytes (lend_after cap)) true ≡ without_job (claim_front (copier_state size out cap running) copy bs)
+claimed_front size out cap running [] e = absurd (false≢true (sym e))
+claimed_front size out cap running (b ∷ rest) e = refl
+
+given_front : (size : ℕ) (out cap : QueueState) (running : Bool) (source dest : Lent) (bs ds : List Buffer) → out.ready ≡ bs → cap.ready ≡ ds → is_empty bs ≡ false → is_empty ds ≡ false → IsLentFrom bs source → IsLentFrom ds dest → let c : Context = copier_state size out cap running in IsGiven (job_data (claim_front c copy bs) (running_of c copy)) source dest (data_bytes size)
+given_front size out cap running source dest [] ds eo ec e f l m = absurd (false≢true (sym e))
+given_front size out cap running source dest (b ∷ rest) [] eo ec e f l m = absurd (false≢true (sym f))
+given_front size out cap running source dest (b ∷ rest) (d ∷ more) eo ec e f l m =
+    let jo : (lend_after out).job ≡ b ∷ [] = ap (λ (xs : List Buffer). (lend_front out xs).job) eo in
+    let jc : (lend_after cap).job ≡ d ∷ [] = ap (λ (xs : List Buffer). (lend_front cap xs).job) ec in
+    record {
+      sort = tt;
+      source = subst (λ (j : List Buffer). IsLent (source_of j) source) (sym jo) l;
+      dest = subst (λ (j : List Buffer). IsDest j dest.index (Some dest.payload.items)) (sym jc) (m.index, m.size);
+      format = refl;
+      limit = refl;
+      rates = refl;
+    }
+
+module _ (size : ℕ) (out cap : QueueState) (running : Bool) (c : Context) (view : copier_state size out cap running ≡ c) (can : is_claimable (Some c) ≡ true) where
+  is_due : IsDue size out cap running
+  is_due = due size out cap running c view can
+
+  pub claim_after : (new_out new_cap : QueueState) → new_out ≡ without_job_bytes (lend_after out) → new_cap ≡ without_job_bytes (lend_after cap) → copier_state size new_out new_cap true ≡ without_job (after_claim c)
+  unfolding after_claim
+  claim_after new_out new_cap eo ec =
+      rw (eo, ec, ← view) (claimed_front size out cap running out.ready is_due.source)
+
+  pub claim_given : (source dest : Lent) → IsLentFrom out.ready source → IsLentFrom cap.ready dest → IsGiven (claimed_data c) source dest (data_bytes size)
+  unfolding after_claim
+  claim_given source dest l m =
+      rw (← view) (given_front size out cap running source dest out.ready cap.ready refl refl is_due.source is_due.dest l m)
+
+  pub claim_step : (new_out new_cap : QueueState) → IsKept c → new_out ≡ without_job_bytes (lend_after out) → new_cap ≡ without_job_bytes (lend_after cap) → IsStep c (copier_state size new_out new_cap true)
+  claim_step new_out new_cap kept eo ec =
+      let k = subst (λ (x : Context). IsKept x) (sym view) kept in
+      let step : IsStep (copier_state size out cap running) (copier_state size (without_job_bytes (lend_after out)) (without_job_bytes (lend_after cap)) true) = record {
+        kept = record { out_side = lent_side out out.ready ∙ k.out_side; cap_side = lent_side cap cap.ready ∙ k.cap_side; filled = lent_filled out out.ready refl k.filled; out_idle = λ e. cc; cap_idle = λ e. cc };
+        counted = λ bound n. record { out_queued = omega (arith, lent_queued out out.ready, n.out_queued); cap_queued = omega (arith, lent_queued cap cap.ready, n.cap_queued); out_done = omega (arith, lent_seq out out.ready, n.out_done); cap_done = omega (arith, lent_seq cap cap.ready, n.cap_done) };
+      } in
+      rw (eo, ec, ← view) step
+
+  pub source_there : out.ready ≡ [] → ⊥
+  source_there = not_empty out.ready is_due.source
+
+  pub dest_there : cap.ready ≡ [] → ⊥
+  dest_there = not_empty cap.ready is_due.dest
+
+  pub no_source : IsKept c → out.job ≡ []
+  no_source kept =
+      (subst (λ (x : Context). IsKept x) (sym view) kept).out_idle (ap job_mark is_due.idle)
+
+  pub no_dest : IsKept c → cap.job ≡ []
+  no_dest kept =
+      (subst (λ (x : Context). IsKept x) (sym view) kept).cap_idle (ap job_mark is_due.idle)
+
+  pub source_filled : (lent : Lent) → IsKept c → IsLentFrom out.ready lent → lent.used ≤ length lent.payload.items
+  source_filled lent kept l =
+      front_filled out.ready lent is_due.source (subst (λ (x : Context). IsKept x) (sym view) kept).filled l

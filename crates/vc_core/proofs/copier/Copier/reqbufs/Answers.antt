@@ -1,0 +1,15 @@
+use Rattle.vc_core.proofs.Copying.{reqbufs_out, reqbufs_cap}
+use Rattle.vc_core.proofs.Stepping.{reqbufs_step}
+use Rattle.vc_core.proofs.copier.Copier.reqbufs.Goals as goal
+
+pub returns-in-Out-clause-answers : goal.returns-in-Out-clause-answers
+returns-in-Out-clause-answers c =
+    reqbufs_out c.self.inside.size c.self.inside.out c.self.inside.cap c.self.inside.running c.args.self.now c.args.side c.self.view_is c.args.count _ c.reqbufs.result _ c.in-Out.is c.reqbufs.ensures.answer c.counted.ensures
+
+pub returns-in-Cap-clause-answers : goal.returns-in-Cap-clause-answers
+returns-in-Cap-clause-answers c =
+    reqbufs_cap c.self.inside.size c.self.inside.out c.self.inside.cap c.self.inside.running c.args.self.now c.args.side c.self.view_is c.args.count _ c.reqbufs-in-Cap.result _ c.in-Cap.is c.reqbufs-in-Cap.ensures.answer c.counted-in-Cap.ensures
+
+pub returns-in-Out-clause-step : goal.returns-in-Out-clause-step
+returns-in-Out-clause-step c =
+    reqbufs_step c.self.inside.size c.self.inside.out c.self.inside.cap c.self.inside.running c.args.self.now c.self.view_is c.requires.kept _ c.args.count _ c.reqbufs.ensures.answer.state

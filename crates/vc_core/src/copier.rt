@@ -1,0 +1,483 @@
+//! A copying context: what is queued on OUTPUT comes out on CAPTURE as it is.
+//!
+//! It has one pixel format, `DATA`, of the same size on both sides. It has no controls, events or commands,
+//! so a drain never begins and jobs may always run.
+
+ghost use Rattle.std.specs.Prelude.{◌≡◌, ◌<◌, ◌^◌, ℕ, not, ◌&&◌, is_some, min, true, None, Some, List, [], slice_get};
+ghost use Rattle.vc_base.specs.declared.Kind.TheVariants.{Copy};
+ghost use Rattle.vc_base.specs.declared.Errno.TheVariants.{NoTty, Inval};
+ghost use Rattle.vc_base.specs.declared.Reply.TheVariants.{Done, Count, Created, Refused};
+ghost use Rattle.vc_base.specs.declared.Call.TheVariants.{ReqBufs, CreateBufs, QBuf, DqBuf, StreamOff};
+ghost use Rattle.vc_base.specs.Buffers.{querybuf_reply};
+ghost use Rattle.vc_model.specs.Formats.{formats_for, formats_listed, clamp, size_or};
+ghost use Rattle.vc_model.specs.Context.{queue_of, fresh_context};
+ghost use Rattle.vc_model.specs.Answer.{desc_answer, format_answer, try_answer, set_refusal, set_answer, reqbufs_answer, create_answer, query_answer, qbuf_answer, dqbuf_answer, streamon_answer, streamoff_answer, context_answer, unchanged, readiness};
+ghost use Rattle.vc_model.specs.Core.{BroughtBack, finished_context};
+ghost use Rattle.vc_model.specs.Runs.{is_claimable, after_claim};
+ghost use Rattle.vc_model.specs.Standing.{without_job};
+ghost use Rattle.vc_core.specs.Contexts.{data_bytes, data_formats, Gives, GivesWithMemory, IsKept, IsStep, IsInside, told_of, refused_or_blocked, taken_or_blocked, has_work};
+ghost use Rattle.vc_core.specs.Jobs.{IsJobOf, Brings, RunsIn, IsOfContext, claimed_data, brought_used, brought_flags};
+ghost use Rattle.vc_core.specs.Payloads.{FitsContext, Moves, handed_over};
+
+use crate::job::{Finished, Job};
+use std::alloc::Global;
+use std::marker::Model;
+use vc_base::{Call, Errno, Format, Fourcc, Reply, Side, Stamp};
+use vc_queue::hold::Hold;
+use vc_queue::queue::Queue;
+use vc_work::Outcome;
+
+/// The size of a buffer at Open, and where none is asked for.
+const USUAL_SIZE: u32 = 4096;
+
+/// The greatest size of a buffer.
+const GREATEST_SIZE: u32 = 17694720;
+
+/// The flag of a buffer that came back without its result.
+const ERROR: u32 = 0x40;
+
+/// A copying context: the size of its buffers, its queues, and whether a job of it runs.
+#[derive(Drop)]
+pub(crate) struct Copier {
+    size: u32,
+    out: Queue,
+    cap: Queue,
+    running: bool,
+}
+
+impl Model for Copier {
+    ghost use Rattle.vc_model.specs.Context.{Context};
+    ghost use Rattle.vc_core.specs.Contexts.{copier_state};
+
+    ghost Value = { Context };
+
+    ghost view = { λ c. copier_state c.size c.out c.cap c.running };
+}
+
+/// The format with buffers of that size.
+fn data_format(size: u32) -> Format
+    ensures { result ≡ data_bytes size }
+{
+    Format {
+        fourcc: Fourcc(*b"DATA"),
+        width: 0,
+        height: 0,
+        size,
+    }
+}
+
+/// The size that is set where this one is asked for.
+fn size_set(asked: u32) -> u32
+    ensures { result ≡ clamp 1 17694720 (size_or asked 4096) }
+{
+    let size = if asked == 0 { USUAL_SIZE } else { asked };
+    size.min(GREATEST_SIZE).max(1)
+}
+
+/// The reply of a call that has nothing to tell.
+fn told(answer: Result<(), Errno>) -> Reply
+    ensures { result ≡ told_of (λ _. Done) answer }
+{
+    match answer {
+        Ok(()) => Reply::Done,
+        Err(errno) => Reply::Refused { errno },
+    }
+}
+
+/// The reply where a call is refused; where there is nothing to take, waiting helps.
+fn refused_or_blocked(block: bool, errno: Errno) -> Reply
+    ensures { result ≡ refused_or_blocked block errno }
+{
+    match errno {
+        Errno::Again | Errno::NoEnt if block => Reply::Blocked,
+        errno => Reply::Refused { errno },
+    }
+}
+
+/// Whether a queue streams and has a ready buffer.
+fn has_work(queue: &Queue) -> bool
+    ensures { result ≡ has_work queue.now }
+{
+    queue.is_streaming() && queue.front_ordinal().is_some()
+}
+
+/// Whether a job is due: none runs, and both queues have work.
+fn is_due(running: bool, source: bool, dest: bool) -> bool
+    ensures { result ≡ (not running && (source && dest)) }
+{
+    !running && source && dest
+}
+
+/// The used bytes and the flags of a buffer that comes back from a run, or from one that was given up.
+fn brought(outcome: Option<Outcome>) -> (u32, u32)
+    ensures { result ≡ (brought_used outcome, brought_flags outcome) }
+{
+    match outcome {
+        Some(Outcome::Copied { used }) => (used, 0),
+        None => (0, ERROR),
+    }
+}
+
+/// The reply to a command: a copying context has none.
+fn no_command() -> Reply
+    ensures { result ≡ Refused NoTty }
+{
+    Reply::Refused {
+        errno: Errno::NoTty,
+    }
+}
+
+/// The reply to a call on an event or a control: a copying context has none.
+fn nothing_such() -> Reply
+    ensures { result ≡ Refused Inval }
+{
+    Reply::Refused {
+        errno: Errno::Inval,
+    }
+}
+
+/// The reply of ReqBufs.
+fn counted(answer: Result<u32, Errno>) -> Reply
+    ensures { result ≡ told_of Count answer }
+{
+    match answer {
+        Ok(count) => Reply::Count { count },
+        Err(errno) => Reply::Refused { errno },
+    }
+}
+
+/// The reply of CreateBufs.
+fn created(answer: Result<(u32, u32), Errno>) -> Reply
+    ensures { result ≡ told_of (λ a. Created a.0 a.1) answer }
+{
+    match answer {
+        Ok((index, count)) => Reply::Created { index, count },
+        Err(errno) => Reply::Refused { errno },
+    }
+}
+
+/// The reply of a call that tells of a buffer.
+fn told_or_refused(answer: Result<Reply, Errno>) -> Reply
+    ensures { result ≡ told_of (λ reply. reply) answer }
+{
+    match answer {
+        Ok(reply) => reply,
+        Err(errno) => Reply::Refused { errno },
+    }
+}
+
+/// The reply of a call that takes a buffer, or waits for one.
+fn taken_or_blocked(block: bool, answer: Result<Reply, Errno>) -> Reply
+    ensures { result ≡ taken_or_blocked block answer }
+{
+    match answer {
+        Ok(reply) => reply,
+        Err(errno) => refused_or_blocked(block, errno),
+    }
+}
+
+impl Copier {
+    /// A context at Open.
+    pub(crate) fn new() -> Copier
+        ensures { result ≡ fresh_context Copy }
+    {
+        Copier {
+            size: USUAL_SIZE,
+            out: Queue::new(Side::Out),
+            cap: Queue::new(Side::Cap),
+            running: false,
+        }
+    }
+
+    /// Answers a call other than Open and Close.
+    pub(crate) fn answer(&mut self, alloc: Global, call: &Call, hold: &mut Hold) -> Reply
+        requires other { IsInside call.now }
+        requires kept { IsKept self.old }
+        requires fits { FitsContext self.old hold.old }
+        requires counts { (self.old.out.next_ordinal < 2 ^ 62) × (self.old.cap.next_ordinal < 2 ^ 62) }
+        ensures answers { GivesWithMemory (context_answer self.old call.now (handed_over call.now hold.old)) result self.new }
+        ensures step { IsStep self.old self.new }
+        ensures moves { Moves (Some self.old) call.now result hold.old hold.new }
+        ensures fit { FitsContext self.new hold.new }
+    {
+        let _ = &self.size;
+        match *call {
+            Call::EnumFmt { side, index } => self.enum_format(side, index),
+            Call::GetFmt { side } => self.format(side),
+            Call::TryFmt { side, want } => self.try_format(side, &want),
+            Call::SetFmt { side, want } => self.set_format(side, &want),
+            Call::ReqBufs { side, count } => self.reqbufs(alloc, side, count, hold),
+            Call::CreateBufs {
+                side,
+                count,
+                length,
+            } => self.create(alloc, side, count, length, hold),
+            Call::QueryBuf { side, index } => self.querybuf(side, index),
+            Call::QBuf {
+                side,
+                index,
+                used,
+                stamp,
+            } => self.qbuf(side, index, used, stamp, hold),
+            Call::DqBuf { side, block } => self.dqbuf(side, block, hold),
+            Call::StreamOn { side } => self.streamon(side),
+            Call::StreamOff { side } => self.streamoff(side, hold),
+            Call::DqEvent { block } => refused_or_blocked(block, Errno::NoEnt),
+            Call::Poll => self.poll(),
+            Call::Open { .. } => Reply::Refused { errno: Errno::Busy },
+            Call::Close => Reply::Blocked,
+            Call::DecCmd { .. } => no_command(),
+            Call::EncCmd { .. } => no_command(),
+            Call::Subscribe { .. } => nothing_such(),
+            Call::Unsubscribe { .. } => nothing_such(),
+            Call::GetCtrl { .. } => nothing_such(),
+            Call::SetCtrl { .. } => nothing_such(),
+        }
+    }
+
+    /// Whether a job of the context runs.
+    pub(crate) fn is_running(&self) -> bool
+        ensures { result ≡ is_some self.now.running }
+    {
+        self.running
+    }
+
+    /// Whether a job can be claimed.
+    pub(crate) fn is_claimable(&self) -> bool
+        ensures { result ≡ is_claimable (Some self.now) }
+    {
+        let source = has_work(&self.out);
+        let dest = has_work(&self.cap);
+        is_due(self.running, source, dest)
+    }
+
+    /// The format of the list of one.
+    fn enum_format(&self, side: Side, index: u32) -> Reply
+        ensures { Gives (desc_answer self.now (slice_get (formats_listed self.now.kind side self.now.formats) index)) result self.now }
+    {
+        let format = data_format(self.size);
+        if index > 0 {
+            return Reply::Refused {
+                errno: Errno::Inval,
+            };
+        }
+        Reply::Desc {
+            fourcc: format.fourcc,
+        }
+    }
+
+    /// The present format.
+    fn format(&self, side: Side) -> Reply
+        ensures { Gives (format_answer self.now side) result self.now }
+    {
+        Reply::Fmt {
+            format: data_format(self.size),
+        }
+    }
+
+    /// The size of buffers where that format is asked for.
+    fn size_for(&self, side: Side, want: &Format) -> u32
+        ensures { data_formats result ≡ formats_for self.now.kind side self.now.formats want.now }
+    {
+        match side {
+            Side::Out => size_set(want.size),
+            Side::Cap => self.size,
+        }
+    }
+
+    /// The format that asking for one would set.
+    fn try_format(&self, side: Side, want: &Format) -> Reply
+        ensures { Gives (try_answer self.now side want.now) result self.now }
+    {
+        Reply::Fmt {
+            format: data_format(self.size_for(side, want)),
+        }
+    }
+
+    /// Whether buffers keep the format of the side as it is.
+    fn has_buffers(&self, side: Side) -> bool
+        ensures { result ≡ is_some (set_refusal self.now side) }
+    {
+        match side {
+            Side::Out => self.out.buffers() > 0 || self.cap.buffers() > 0,
+            Side::Cap => self.cap.buffers() > 0,
+        }
+    }
+
+    /// Sets the format, of both sides.
+    fn set_format(&mut self, side: Side, want: &Format) -> Reply
+        requires kept { IsKept self.old }
+        ensures answers { Gives (set_answer self.old side want.now) result self.new }
+        ensures step { IsStep self.old self.new }
+        ensures queues { (self.new.out ≡ self.old.out) × (self.new.cap ≡ self.old.cap) }
+    {
+        if self.has_buffers(side) {
+            return Reply::Refused { errno: Errno::Busy };
+        }
+        let size = self.size_for(side, want);
+        self.size = size;
+        Reply::Fmt {
+            format: data_format(size),
+        }
+    }
+
+    /// Drops all buffers of a queue, and makes new ones, which the user holds.
+    fn reqbufs(&mut self, alloc: Global, side: Side, count: u32, hold: &mut Hold) -> Reply
+        requires kept { IsKept self.old }
+        requires fits { FitsContext self.old hold.old }
+        ensures answers { GivesWithMemory (reqbufs_answer self.old side count) result self.new }
+        ensures step { IsStep self.old self.new }
+        ensures moves { Moves (Some self.old) (ReqBufs side count) result hold.old hold.new }
+        ensures fit { FitsContext self.new hold.new }
+    {
+        let size = self.size;
+        match side {
+            Side::Out => counted(self.out.reqbufs(alloc, count, size, hold)),
+            Side::Cap => counted(self.cap.reqbufs(alloc, count, size, hold)),
+        }
+    }
+
+    /// Adds buffers to a queue, which the user holds.
+    fn create(
+        &mut self,
+        alloc: Global,
+        side: Side,
+        count: u32,
+        length: u32,
+        hold: &mut Hold,
+    ) -> Reply
+        requires kept { IsKept self.old }
+        requires fits { FitsContext self.old hold.old }
+        ensures answers { GivesWithMemory (create_answer self.old side count length) result self.new }
+        ensures step { IsStep self.old self.new }
+        ensures moves { Moves (Some self.old) (CreateBufs side count length) result hold.old hold.new }
+        ensures fit { FitsContext self.new hold.new }
+    {
+        match side {
+            Side::Out => created(self.out.create(alloc, count, length, hold)),
+            Side::Cap => created(self.cap.create(alloc, count, length, hold)),
+        }
+    }
+
+    /// What is told of a buffer.
+    fn querybuf(&self, side: Side, index: u32) -> Reply
+        ensures { Gives (query_answer self.now (querybuf_reply (queue_of self.now side) index)) result self.now }
+    {
+        match side {
+            Side::Out => told_or_refused(self.out.querybuf(index)),
+            Side::Cap => told_or_refused(self.cap.querybuf(index)),
+        }
+    }
+
+    /// Moves a payload from the user to the end of ready.
+    fn qbuf(&mut self, side: Side, index: u32, used: u32, stamp: Stamp, hold: &mut Hold) -> Reply
+        requires kept { IsKept self.old }
+        requires fits { FitsContext self.old hold.old }
+        requires counts { (self.old.out.next_ordinal < 2 ^ 62) × (self.old.cap.next_ordinal < 2 ^ 62) }
+        ensures answers { Gives (qbuf_answer self.old side index used stamp (handed_over (QBuf side index used stamp) hold.old)) result self.new }
+        ensures step { IsStep self.old self.new }
+        ensures moves { Moves (Some self.old) (QBuf side index used stamp) result hold.old hold.new }
+        ensures fit { FitsContext self.new hold.new }
+    {
+        let least = self.size;
+        match side {
+            Side::Out => told(self.out.qbuf(index, used, stamp, least, hold)),
+            Side::Cap => told(self.cap.qbuf(index, used, stamp, least, hold)),
+        }
+    }
+
+    /// Moves the front of done to the user.
+    fn dqbuf(&mut self, side: Side, block: bool, hold: &mut Hold) -> Reply
+        requires kept { IsKept self.old }
+        requires fits { FitsContext self.old hold.old }
+        ensures answers { Gives (dqbuf_answer self.old side block) result self.new }
+        ensures step { IsStep self.old self.new }
+        ensures moves { Moves (Some self.old) (DqBuf side block) result hold.old hold.new }
+        ensures fit { FitsContext self.new hold.new }
+    {
+        match side {
+            Side::Out => taken_or_blocked(block, self.out.dqbuf(false, hold)),
+            Side::Cap => taken_or_blocked(block, self.cap.dqbuf(false, hold)),
+        }
+    }
+
+    /// Lets a queue stream.
+    fn streamon(&mut self, side: Side) -> Reply
+        requires kept { IsKept self.old }
+        ensures answers { Gives (streamon_answer self.old side) result self.new }
+        ensures step { IsStep self.old self.new }
+        ensures held { (self.new.out.held ≡ self.old.out.held) × (self.new.cap.held ≡ self.old.cap.held) }
+    {
+        let least = self.size;
+        match side {
+            Side::Out => told(self.out.streamon(least)),
+            Side::Cap => told(self.cap.streamon(least)),
+        }
+    }
+
+    /// Ends streaming of a queue, unless a job runs: its ready and done buffers go back to the user.
+    fn streamoff(&mut self, side: Side, hold: &mut Hold) -> Reply
+        requires kept { IsKept self.old }
+        requires fits { FitsContext self.old hold.old }
+        ensures answers { Gives (streamoff_answer self.old side) result self.new }
+        ensures step { IsStep self.old self.new }
+        ensures moves { Moves (Some self.old) (StreamOff side) result hold.old hold.new }
+        ensures fit { FitsContext self.new hold.new }
+    {
+        if self.running {
+            return Reply::Blocked;
+        }
+        match side {
+            Side::Out => self.out.streamoff(hold),
+            Side::Cap => self.cap.streamoff(hold),
+        }
+        Reply::Done
+    }
+
+    /// What can be had without waiting.
+    fn poll(&self) -> Reply
+        ensures { Gives (unchanged self.now (readiness self.now)) result self.now }
+    {
+        Reply::Ready {
+            read: self.cap.done_len() > 0,
+            write: self.out.done_len() > 0,
+            urgent: false,
+        }
+    }
+
+    /// Takes the front buffers of both queues into a job.
+    pub(crate) fn claim(&mut self, slot: u32) -> Job
+        requires kept { IsKept self.old }
+        requires due { is_claimable (Some self.old) ≡ true }
+        ensures after { self.new ≡ without_job (after_claim self.old) }
+        ensures step { IsStep self.old self.new }
+        ensures job { IsJobOf slot (claimed_data self.old) result }
+    {
+        let source = self.out.lend();
+        let dest = self.cap.lend();
+        self.running = true;
+        Job::copying(slot, source, dest, data_format(self.size))
+    }
+
+    /// Takes the buffers of a job back: they go to done.
+    pub(crate) fn finish(&mut self, finished: Finished)
+        requires kept { IsKept self.old }
+        requires counts { (self.old.out.next_seq < 2 ^ 62) × (self.old.cap.next_seq < 2 ^ 62) }
+        requires back { IsOfContext self.old finished }
+        ensures after { (k : ℕ) (back : BroughtBack) → RunsIn self.old back.job → Brings k back finished → self.new ≡ finished_context self.old back }
+        ensures step { IsStep self.old self.new }
+    {
+        let Finished {
+            slot: _,
+            source,
+            dest,
+            outcome,
+        } = finished;
+        let (used, flags) = brought(outcome);
+        let stamp = source.stamp;
+        let source_used = source.used;
+        self.out.retire(source, source_used, flags, stamp);
+        self.cap.retire(dest, used, flags, stamp);
+        self.running = false;
+    }
+}

@@ -1,0 +1,14 @@
+//! The device: slots with contexts, the list of the slots that wait for a worker, and the jobs.
+//!
+//! Each call, claim, finish and shut is one step of the device, as docs/DEVICE.md defines it. A job takes
+//! the buffers of its run with it and is run outside the device, on no lock.
+//!
+//! So far there are copying contexts. Contexts that encode and decode add a variant to the contents of a
+//! slot, and an arm to each of its calls.
+#![tactic(auto)]
+
+mod copier;
+mod job;
+
+pub use job::{Finished, Job};
+pub use vc_work::{Engine, EngineFault, Rates};

@@ -1,0 +1,65 @@
+//! Engines, which run jobs.
+
+ghost use Rattle.std.specs.Prelude.{◌≡◌, ℕ, ◌≤◌, IfOk, IfErr};
+ghost use Rattle.vc_base.specs.Counts.{OneMore, Rose};
+ghost use Rattle.vc_work.specs.Runs.{Fits, IsRun, KeepsLengths};
+
+use crate::work::Work;
+
+/// What a run came to.
+#[derive(Clone, Copy, Debug, PartialEq, Eq)]
+pub enum Outcome {
+    /// So many bytes stand at the front of the destination.
+    Copied {
+        used: u32,
+    },
+}
+
+/// The engine gave up. Nothing is known of the bytes of the work then.
+#[derive(Clone, Copy, Debug, PartialEq, Eq)]
+pub struct EngineFault;
+
+/// An engine runs jobs. It counts its runs without fault and its faults; neither count falls, and each
+/// stays at 2^64 - 1 once it is there.
+pub trait Engine: Drop {
+    ghost run_count: { Self → ℕ };
+
+    ghost fault_count: { Self → ℕ };
+
+    /// Runs the job. The outcome and the work afterwards follow from the work before, whatever the engine
+    /// did earlier. It takes no memory.
+    fn run(&mut self, work: &mut Work) -> Result<Outcome, EngineFault>
+        requires fits { Fits work.old }
+        ensures outcome { IfOk result (IsRun work.old work.new) }
+        ensures ran { IfOk result (λ _. OneMore (run_count self.old) (run_count self.new)) }
+        ensures failed { IfErr result (λ _. Rose (fault_count self.old) (fault_count self.new)) }
+        ensures runs_stay { run_count self.old ≤ run_count self.new }
+        ensures faults_stay { fault_count self.old ≤ fault_count self.new }
+        ensures lengths { KeepsLengths work.old work.new };
+
+    /// How many runs there were without fault.
+    fn runs(&self) -> u64
+        ensures { result ≡ run_count self.now };
+
+    /// How many runs failed.
+    fn faults(&self) -> u64
+        ensures { result ≡ fault_count self.now };
+}
+
+impl Engine for Box<dyn Engine + Send> {
+    ghost run_count = { λ b. (Engine-box b).run_count b.value };
+
+    ghost fault_count = { λ b. (Engine-box b).fault_count b.value };
+
+    fn run(&mut self, work: &mut Work) -> Result<Outcome, EngineFault> {
+        (**self).run(work)
+    }
+
+    fn runs(&self) -> u64 {
+        (**self).runs()
+    }
+
+    fn faults(&self) -> u64 {
+        (**self).faults()
+    }
+}
