@@ -7,7 +7,8 @@ use Rattle.vc_base.specs.declared.Side.TheVariants.{Out, Cap}
 use Rattle.vc_base.specs.Buffers.{Buffer, QueueState, is_empty, lend_after, lend_front, without_job_bytes}
 use Rattle.vc_model.specs.Context.{Context, Slot, copy}
 use Rattle.vc_model.specs.Runs.{is_claimable, after_claim, claim_front, running_of, job_data, source_of}
-use Rattle.vc_model.specs.Standing.{without_job}
+use Rattle.vc_model.specs.Standing.{without_job, job_in}
+use Rattle.vc_model.specs.Core.{claimed_in}
 use Rattle.vc_queue.specs.declared.queue.Lent.{Lent}
 use Rattle.vc_queue.specs.Lending.{IsLent, IsLentFrom}
 use Rattle.vc_queue.specs.Releasing.{front_ordinal}
@@ -102,6 +103,10 @@ given_front size out cap running source dest (b ∷ rest) (d ∷ more) eo ec e f
       rates = refl;
     }
 
+taken_job : (size : ℕ) (out cap : QueueState) (running : Bool) (bs : List Buffer) → is_empty bs ≡ false → let d : Context = claim_front (copier_state size out cap running) copy bs in job_in (Some d) ≡ Some (job_data d (running_of (copier_state size out cap running) copy))
+taken_job size out cap running [] e = absurd (false≢true (sym e))
+taken_job size out cap running (b ∷ rest) e = refl
+
 module _ (size : ℕ) (out cap : QueueState) (running : Bool) (c : Context) (view : copier_state size out cap running ≡ c) (can : is_claimable (Some c) ≡ true) where
   is_due : IsDue size out cap running
   is_due = due size out cap running c view can
@@ -142,3 +147,10 @@ module _ (size : ℕ) (out cap : QueueState) (running : Bool) (c : Context) (vie
   pub source_filled : (lent : Lent) → IsKept c → IsLentFrom out.ready lent → lent.used ≤ length lent.payload.items
   source_filled lent kept l =
       front_filled out.ready lent is_due.source (subst (λ (x : Context). IsKept x) (sym view) kept).filled l
+
+  pub claimed_is : claimed_in (Some c) ≡ Some (claimed_data c)
+  unfolding after_claim
+  claimed_is = rw (← view) (taken_job size out cap running out.ready is_due.source)
+
+  pub is_taken : (new_out new_cap : QueueState) → is_claimable (Some (copier_state size new_out new_cap true)) ≡ false
+  is_taken new_out new_cap = claimable_is size new_out new_cap true

@@ -1,7 +1,9 @@
 pub mod Answering
 pub mod Claiming
 pub mod Copying
+pub mod Cores
 pub mod Finishing
 pub mod Moving
 pub mod Running
+pub mod Slots
 pub mod Stepping

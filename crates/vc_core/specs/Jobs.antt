@@ -151,6 +151,11 @@ abbrev pub RunsInSlot : Slot → JobData → Type 0
 RunsInSlot None j = ⊥
 RunsInSlot (Some c) j = RunsIn c j
 
+-- what is brought back is of the job that runs in the slot
+abbrev pub IsOfSlot : Slot → Finished → Type 0
+IsOfSlot None finished = ⊥
+IsOfSlot (Some c) finished = IsOfContext c finished
+
 -- The worker has the job of slot k, and its data are these.
 pub record HasJob (core : CoreState) (worker k : ℕ) (j : JobData) : Type 0 where
   pub of_slot : job_of core worker ≡ Some k
@@ -162,6 +167,11 @@ pub record IsOfWorker (core : CoreState) (worker : ℕ) (finished : Finished) : 
   pub back : BroughtBack
   pub job : HasJob core worker slot back.job
   pub brings : Brings slot back finished
+
+-- the job has the data, where there are any
+abbrev pub IsJobWith : ℕ → Option JobData → Job → Type 0
+IsJobWith k None job = ⊥
+IsJobWith k (Some j) job = IsJobOf k j job
 
 -- what a claim gives: the job of the front slot, or none where no slot waits
 abbrev pub IsClaim : List ℕ → Option JobData → Option Job → Type 0

@@ -1,3 +1,5 @@
+pub mod Contents
 pub mod Contexts
 pub mod Jobs
 pub mod Payloads
+pub mod Steps

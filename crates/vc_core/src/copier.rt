@@ -3,7 +3,7 @@
 //! It has one pixel format, `DATA`, of the same size on both sides. It has no controls, events or commands,
 //! so a drain never begins and jobs may always run.
 
-ghost use Rattle.std.specs.Prelude.{◌≡◌, ◌<◌, ◌^◌, ℕ, not, ◌&&◌, is_some, min, true, None, Some, List, [], slice_get};
+ghost use Rattle.std.specs.Prelude.{◌≡◌, ◌<◌, ◌^◌, ℕ, not, ◌&&◌, is_some, min, true, false, None, Some, List, [], slice_get};
 ghost use Rattle.vc_base.specs.declared.Kind.TheVariants.{Copy};
 ghost use Rattle.vc_base.specs.declared.Errno.TheVariants.{NoTty, Inval};
 ghost use Rattle.vc_base.specs.declared.Reply.TheVariants.{Done, Count, Created, Refused};
@@ -12,11 +12,11 @@ ghost use Rattle.vc_base.specs.Buffers.{querybuf_reply};
 ghost use Rattle.vc_model.specs.Formats.{formats_for, formats_listed, clamp, size_or};
 ghost use Rattle.vc_model.specs.Context.{queue_of, fresh_context};
 ghost use Rattle.vc_model.specs.Answer.{desc_answer, format_answer, try_answer, set_refusal, set_answer, reqbufs_answer, create_answer, query_answer, qbuf_answer, dqbuf_answer, streamon_answer, streamoff_answer, context_answer, unchanged, readiness};
-ghost use Rattle.vc_model.specs.Core.{BroughtBack, finished_context};
+ghost use Rattle.vc_model.specs.Core.{BroughtBack, finished_context, claimed_in};
 ghost use Rattle.vc_model.specs.Runs.{is_claimable, after_claim};
 ghost use Rattle.vc_model.specs.Standing.{without_job};
-ghost use Rattle.vc_core.specs.Contexts.{data_bytes, data_formats, Gives, GivesWithMemory, IsKept, IsStep, IsInside, told_of, refused_or_blocked, taken_or_blocked, has_work};
-ghost use Rattle.vc_core.specs.Jobs.{IsJobOf, Brings, RunsIn, IsOfContext, claimed_data, brought_used, brought_flags};
+ghost use Rattle.vc_core.specs.Contexts.{HasRoom, data_bytes, data_formats, Gives, GivesWithMemory, IsKept, IsStep, is_close, told_of, refused_or_blocked, taken_or_blocked, has_work};
+ghost use Rattle.vc_core.specs.Jobs.{IsJobWith, Brings, RunsIn, IsOfContext, brought_used, brought_flags};
 ghost use Rattle.vc_core.specs.Payloads.{FitsContext, Moves, handed_over};
 
 use crate::job::{Finished, Job};
@@ -191,10 +191,10 @@ impl Copier {
 
     /// Answers a call other than Open and Close.
     pub(crate) fn answer(&mut self, alloc: Global, call: &Call, hold: &mut Hold) -> Reply
-        requires other { IsInside call.now }
+        requires other { is_close call.now ≡ false }
         requires kept { IsKept self.old }
         requires fits { FitsContext self.old hold.old }
-        requires counts { (self.old.out.next_ordinal < 2 ^ 62) × (self.old.cap.next_ordinal < 2 ^ 62) }
+        requires room { HasRoom self.old }
         ensures answers { GivesWithMemory (context_answer self.old call.now (handed_over call.now hold.old)) result self.new }
         ensures step { IsStep self.old self.new }
         ensures moves { Moves (Some self.old) call.now result hold.old hold.new }
@@ -373,7 +373,7 @@ impl Copier {
     fn qbuf(&mut self, side: Side, index: u32, used: u32, stamp: Stamp, hold: &mut Hold) -> Reply
         requires kept { IsKept self.old }
         requires fits { FitsContext self.old hold.old }
-        requires counts { (self.old.out.next_ordinal < 2 ^ 62) × (self.old.cap.next_ordinal < 2 ^ 62) }
+        requires room { HasRoom self.old }
         ensures answers { Gives (qbuf_answer self.old side index used stamp (handed_over (QBuf side index used stamp) hold.old)) result self.new }
         ensures step { IsStep self.old self.new }
         ensures moves { Moves (Some self.old) (QBuf side index used stamp) result hold.old hold.new }
@@ -451,7 +451,8 @@ impl Copier {
         requires due { is_claimable (Some self.old) ≡ true }
         ensures after { self.new ≡ without_job (after_claim self.old) }
         ensures step { IsStep self.old self.new }
-        ensures job { IsJobOf slot (claimed_data self.old) result }
+        ensures job { IsJobWith slot (claimed_in (Some self.old)) result }
+        ensures taken { is_claimable (Some self.new) ≡ false }
     {
         let source = self.out.lend();
         let dest = self.cap.lend();
@@ -462,7 +463,7 @@ impl Copier {
     /// Takes the buffers of a job back: they go to done.
     pub(crate) fn finish(&mut self, finished: Finished)
         requires kept { IsKept self.old }
-        requires counts { (self.old.out.next_seq < 2 ^ 62) × (self.old.cap.next_seq < 2 ^ 62) }
+        requires room { HasRoom self.old }
         requires back { IsOfContext self.old finished }
         ensures after { (k : ℕ) (back : BroughtBack) → RunsIn self.old back.job → Brings k back finished → self.new ≡ finished_context self.old back }
         ensures step { IsStep self.old self.new }

@@ -8,7 +8,10 @@
 #![tactic(auto)]
 
 mod copier;
+mod device;
 mod job;
+mod slot;
 
+pub use device::Core;
 pub use job::{Finished, Job};
 pub use vc_work::{Engine, EngineFault, Rates};

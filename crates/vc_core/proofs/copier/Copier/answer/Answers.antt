@@ -1,5 +1,5 @@
 use Rattle.std.proofs.Common.{refl, rules}
-use Rattle.vc_base.specs.declared.Errno.TheVariants.{NoEnt, NoTty, Inval}
+use Rattle.vc_base.specs.declared.Errno.TheVariants.{Busy, NoEnt, NoTty, Inval}
 use Rattle.vc_base.specs.declared.Reply.TheVariants.{Refused}
 use Rattle.vc_model.specs.Answer.{context_answer, refused, dqevent_answer}
 use Rattle.vc_core.specs.Contexts.{copier_state, refused_or_blocked}
@@ -100,3 +100,8 @@ pub returns-in-DqEvent-clause-answers : goal.returns-in-DqEvent-clause-answers
 unfolding context_answer
 returns-in-DqEvent-clause-answers c =
     rw (c.in-DqEvent.is, c.refused_or_blocked.ensures, ← c.self.view_is) (always _ (dqevent_answer (copier_state c.self.inside.size c.self.inside.out c.self.inside.cap c.self.inside.running) c.in-DqEvent.block) (refused_or_blocked c.in-DqEvent.block NoEnt) (copier_state c.self.inside.size c.self.inside.out c.self.inside.cap c.self.inside.running) refl (no_event c.self.inside.size c.self.inside.out c.self.inside.cap c.self.inside.running c.in-DqEvent.block))
+
+pub returns-in-Open-clause-answers : goal.returns-in-Open-clause-answers
+unfolding context_answer
+returns-in-Open-clause-answers c =
+    rw c.in-Open.is (always _ (refused c.args.self.now Busy) (Refused Busy) c.args.self.now refl (record { reply = refl; context = refl }))

@@ -1,5 +1,5 @@
 use Rattle.std.proofs.Common.{arith, ◌≤◌, length}
-use Rattle.vc_core.proofs.Claiming.{claim_after, claim_given, claim_step, source_there, dest_there, no_source, no_dest, source_filled}
+use Rattle.vc_core.proofs.Claiming.{claim_after, claim_given, claimed_is, is_taken, claim_step, source_there, dest_there, no_source, no_dest, source_filled}
 use Rattle.vc_core.proofs.copier.Copier.claim.Goals as goal
 
 pub returns-clause-after : goal.returns-clause-after
@@ -12,7 +12,10 @@ returns-clause-step c =
 
 pub returns-clause-job : goal.returns-clause-job
 returns-clause-job c =
-    c.copying.ensures _ (rw c.data_format.ensures (claim_given c.self.inside.size c.self.inside.out c.self.inside.cap c.self.inside.running c.args.self.now c.self.view_is c.requires.due _ _ c.lend-source.ensures.lent c.lend-dest.ensures.lent))
+    rw (claimed_is c.self.inside.size c.self.inside.out c.self.inside.cap c.self.inside.running c.args.self.now c.self.view_is c.requires.due) (c.copying.ensures _ (rw c.data_format.ensures (claim_given c.self.inside.size c.self.inside.out c.self.inside.cap c.self.inside.running c.args.self.now c.self.view_is c.requires.due _ _ c.lend-source.ensures.lent c.lend-dest.ensures.lent)))
+
+pub returns-clause-taken : goal.returns-clause-taken
+returns-clause-taken c = is_taken c.self.inside.size c.self.inside.out c.self.inside.cap c.self.inside.running c.args.self.now c.self.view_is c.requires.due c.lend-source.new.self c.lend-dest.new.self
 
 pub copying-requires : goal.copying-requires
 copying-requires c =

@@ -1,0 +1,166 @@
+-- The steps of a core, as its fields change.
+use Rattle.std.proofs.Common.{ℕ, zero, suc, ◌≡◌, ◌<◌, ◌≤◌, ◌+◌, ◌^◌, ltb, eqb, nat_eq, Bool, true, false, not, ◌||◌, cond, Option, Some, None, List, [], ◌∷◌, ◌++◌, length, get_or, set, length-set, get_or-set_same, get_or-set_other, ⊎_elim, inl, inr, ◌⊎◌, eqb-true, ltb-false, refl, sym, ap, ◌∙◌, subst, arith}
+use Rattle.std.specs.Prelude.{◌==◌, replicate, is_none}
+use Rattle.std.specs.List.{filter, list_any}
+use Rattle.std.proofs.lemmas.Bool.{false≢true, cases_eq}
+use Rattle.vc_base.specs.declared.Call.{Call}
+use Rattle.vc_base.specs.declared.Reply.{Reply}
+use Rattle.vc_base.specs.declared.Reply.TheVariants.{Refused, Blocked}
+use Rattle.vc_base.specs.declared.Errno.TheVariants.{NoMem}
+use Rattle.vc_model.specs.Context.{Context, Slot, Running}
+use Rattle.vc_model.specs.Runs.{JobData, is_claimable, after_claim}
+use Rattle.vc_model.specs.Answer.{Answer, answer}
+use Rattle.vc_model.specs.Solo.{Answered, Claimed, Finished}
+use Rattle.vc_model.specs.Devices.{DeviceState, DeviceStep, Told, slot_of, job_of, waiting_after, with_slot, steps_of, counted, call_answered}
+use Rattle.vc_model.specs.JobList.{waits}
+use Rattle.vc_model.specs.Standing.{CoreState, without_job}
+use Rattle.vc_model.specs.Core.{BroughtBack, core_call, core_claim, core_claim_first, core_claim_slot, core_finish, core_finish_of, core_finish_slot, core_finish_job, claimed_job, claimed_first, claimed_in, finished_context}
+use Rattle.vc_model.proofs.Listing.{without_other, without_same}
+use Rattle.vc_model.proofs.Blocking.{blocked_stays}
+use Rattle.vc_queue.specs.Holds.{HoldState}
+use Rattle.vc_jobs.specs.Jobs.{Jobs}
+use Rattle.vc_jobs.specs.Jobs as jobs
+use Rattle.vc_core.specs.declared.job.Job.{Job}
+use Rattle.vc_core.specs.declared.job.Finished as job
+use Rattle.vc_core.specs.Contexts.{IsKeptSlot, IsCountedSlot, IsStepOfSlot, SlotHasRoom, IsCounted, HasRoom, IsAnswer, claimed_slot, finished_slot}
+use Rattle.vc_core.specs.Jobs.{IsJobWith, IsClaim, HasJob, RunsInSlot, Brings, IsOfWorker, IsOfSlot}
+use Rattle.vc_core.specs.Payloads.{handed_over}
+use Rattle.vc_core.specs.Steps.{IsCall, IsCore, slot_at}
+
+-- the two lists of waiting slots are one
+same_waiting : (waiting : List ℕ) (k : ℕ) (b : Bool) → jobs.waiting_after waiting k b ≡ waiting_after waiting k b
+same_waiting waiting k true = refl
+same_waiting waiting k false = refl
+
+-- the slots, where one of them changed
+
+same_at : (slots : List Slot) (k : ℕ) (s : Slot) → k < length slots → slot_at (set slots k s) k ≡ s
+same_at slots k s h = get_or-set_same slots k s None h
+
+other_at : (slots : List Slot) (k j : ℕ) (s : Slot) → (j ≡ k → ⊥) → slot_at (set slots k s) j ≡ slot_at slots j
+other_at slots k j s n = get_or-set_other slots k j s None n
+
+-- a fact of each slot, where one of them changed
+each_at : (P : Slot → Type 0) (slots : List Slot) (k : ℕ) (s : Slot) → k < length slots → P s → ((j : ℕ) → P (slot_at slots j)) → (j : ℕ) → P (slot_at (set slots k s) j)
+each_at P slots k s h here there j =
+    ⊎_elim (λ (e : j ≡ k). subst (λ (i : ℕ). P (slot_at (set slots k s) i)) (sym e) (subst P (sym (same_at slots k s h)) here)) (λ (n : j ≡ k → ⊥). subst P (sym (other_at slots k j s n)) (there j)) (cases_eq j k)
+
+-- only slots with a job to be claimed wait
+
+waits_end : (ks : List ℕ) (k j : ℕ) → waits (ks ++ k ∷ []) j ≡ (waits ks j || (eqb k j || false))
+waits_end [] k j = refl
+waits_end (x ∷ ks) k j =
+    ap (λ b. eqb x j || b) (waits_end ks k j) ∙ sym (or_assoc (eqb x j) (waits ks j) (eqb k j || false))
+  where
+    or_assoc : (a b c : Bool) → ((a || b) || c) ≡ (a || (b || c))
+    or_assoc true b c = refl
+    or_assoc false b c = refl
+
+unlike : (k j : ℕ) → (j ≡ k → ⊥) → (b : Bool) → eqb k j ≡ b → b ≡ false
+unlike k j n true e = absurd (n (sym (eqb-true k j e)))
+unlike k j n false e = refl
+
+added_other : (ks : List ℕ) (k j : ℕ) → (j ≡ k → ⊥) → (b : Bool) → waits (cond b ks (ks ++ k ∷ [])) j ≡ true → waits ks j ≡ true
+added_other ks k j n true h = h
+added_other ks k j n false h = or_end (waits ks j) (eqb k j) (unlike k j n (eqb k j) refl) (sym (waits_end ks k j) ∙ h)
+  where
+    or_end : (a b : Bool) → b ≡ false → (a || (b || false)) ≡ true → a ≡ true
+    or_end true b e h = refl
+    or_end false true e h = absurd (false≢true (sym e))
+    or_end false false e h = absurd (false≢true h)
+
+waits_other : (ks : List ℕ) (k j : ℕ) (b : Bool) → (j ≡ k → ⊥) → waits (waiting_after ks k b) j ≡ true → waits ks j ≡ true
+waits_other ks k j true n h = added_other ks k j n (list_any (λ i. i == k) ks) h
+waits_other ks k j false n h = sym (without_other ks k j n) ∙ h
+
+waits_same : (ks : List ℕ) (k : ℕ) (b : Bool) → waits (waiting_after ks k b) k ≡ true → b ≡ true
+waits_same ks k true h = refl
+waits_same ks k false h = absurd (false≢true (sym (without_same ks k) ∙ h))
+
+listed_at : (slots : List Slot) (ks : List ℕ) (k : ℕ) (s : Slot) → k < length slots → ((j : ℕ) → (j ≡ k → ⊥) → waits ks j ≡ true → is_claimable (slot_at slots j) ≡ true) → (j : ℕ) → waits (waiting_after ks k (is_claimable s)) j ≡ true → is_claimable (slot_at (set slots k s) j) ≡ true
+listed_at slots ks k s h there j w =
+    ⊎_elim (λ (e : j ≡ k). let w' : waits (waiting_after ks k (is_claimable s)) k ≡ true = ap (waits (waiting_after ks k (is_claimable s))) (sym e) ∙ w in ap (λ (i : ℕ). is_claimable (slot_at (set slots k s) i)) e ∙ (ap is_claimable (same_at slots k s h) ∙ waits_same ks k (is_claimable s) w')) (λ (n : j ≡ k → ⊥). ap is_claimable (other_at slots k j s n) ∙ there j n (waits_other ks k j (is_claimable s) n w)) (cases_eq j k)
+
+-- numbers below the end
+
+pub has_room : (s : Slot) (steps : ℕ) → IsCountedSlot steps s → steps < 2 ^ 62 → SlotHasRoom s
+has_room None steps n h = tt
+has_room (Some c) steps n h =
+    record { out_queued = omega (arith, n.out_queued, h); cap_queued = omega (arith, n.cap_queued, h); out_done = omega (arith, n.out_done, h); cap_done = omega (arith, n.cap_done, h) }
+
+more_counted : (s : Slot) (a b : ℕ) → a ≤ b → IsCountedSlot a s → IsCountedSlot b s
+more_counted None a b h n = tt
+more_counted (Some c) a b h n =
+    record { out_queued = omega (arith, n.out_queued, h); cap_queued = omega (arith, n.cap_queued, h); out_done = omega (arith, n.out_done, h); cap_done = omega (arith, n.cap_done, h) }
+
+steps_at : (reply : Reply) → (steps_of reply ≡ 1) ⊎ (reply ≡ Blocked)
+steps_at Blocked = inr refl
+steps_at reply = inl refl
+
+-- What the step on a slot comes to.
+
+counted_after : (old new : Slot) (steps : ℕ) (reply : Reply) → IsStepOfSlot old new → (reply ≡ Blocked → new ≡ old) → IsCountedSlot steps old → IsCountedSlot (steps + steps_of reply) new
+counted_after old new steps reply step stays n =
+    ⊎_elim (λ (e : steps_of reply ≡ 1). subst (λ (m : ℕ). IsCountedSlot (steps + m) new) (sym e) (step.counted steps n)) (λ (e : reply ≡ Blocked). subst (λ (s : Slot). IsCountedSlot (steps + steps_of reply) s) (sym (stays e)) (more_counted old steps (steps + steps_of reply) (omega arith) n)) (steps_at reply)
+
+blocked_same : (s new : Slot) (request : Call) (bytes : List ℕ) (told : Reply) → IsAnswer s request bytes told new → told ≡ Blocked → new ≡ s
+blocked_same s new request bytes told a e =
+    sym a.slot ∙ blocked_stays s request bytes a.found (a.reply ∙ e)
+
+any_default : {A : Type 0} (l : List A) (i : ℕ) (d e : A) → i < length l → get_or l i d ≡ get_or l i e
+any_default [] i d e h = absurd (omega (arith, h))
+any_default (x ∷ l) zero d e h = refl
+any_default (x ∷ l) (suc i) d e h = any_default l i d e (omega (arith, h))
+
+-- the state with these fields
+abbrev pub core_state : List Slot → List ℕ → List (Option ℕ) → Bool → ℕ → CoreState
+core_state slots waiting workers shut steps =
+    record { slots = slots; waiting = waiting; workers = workers; is_shut = shut; steps = steps }
+
+within : (k n : ℕ) → k < n → (b : Bool) → ltb k n ≡ b → b ≡ true
+within k n h true e = refl
+within k n h false e = absurd (omega (arith, h, ltb-false k n e))
+
+-- A call
+
+called_at : (slots : List Slot) (waiting : List ℕ) (workers : List (Option ℕ)) (shut : Bool) (steps k : ℕ) (request : Call) (hold : HoldState) (told : Reply) (new : Slot) → k < length slots → IsAnswer (slot_at slots k) request (handed_over request hold) told new → IsCall (core_state slots waiting workers shut steps) k request hold told (core_state (set slots k new) (waiting_after waiting k (is_claimable new)) workers shut (steps + steps_of told))
+unfolding with_slot
+called_at slots waiting workers shut steps k request hold told new h a =
+    let core : CoreState = core_state slots waiting workers shut steps in
+    let here : ltb k (length slots) ≡ true = within k (length slots) h (ltb k (length slots)) refl in
+    let bytes : List ℕ = handed_over request hold in
+    let step : DeviceStep = call_answered core k (answer (slot_at slots k) request bytes a.found) in
+    let made : step.device ≡ core_state (set slots k new) (waiting_after waiting k (is_claimable new)) workers shut (steps + steps_of told) = rw (a.slot, a.reply) refl in
+    record {
+      found = a.found;
+      handed = (answer (slot_at slots k) request bytes a.found).bytes;
+      reply = rw (here, a.reply) refl;
+      device = rw here made;
+      want = a.want;
+    }
+
+module _ (slots : List Slot) (list list_new : Jobs) (steps k : ℕ) (old new : Slot) (due : Bool) (h : k < length slots) (there : old ≡ get_or slots k old) (is_due : due ≡ is_claimable new) (settled : list_new ≡ jobs.with_waiting list (jobs.waiting_after list.waiting k due)) where
+  found_there : old ≡ slot_at slots k
+  found_there = there ∙ any_default slots k old None h
+
+  waiting_now : list_new.waiting ≡ waiting_after list.waiting k (is_claimable new)
+  waiting_now =
+      ap (λ (l : Jobs). l.waiting) settled ∙ (same_waiting list.waiting k due ∙ ap (waiting_after list.waiting k) is_due)
+
+  -- the core that is kept, after a step that counts so much
+  keeps_at : (count : ℕ) → IsCore slots list steps → IsKeptSlot new → IsCountedSlot (steps + count) new → IsCore (set slots k new) list_new (steps + count)
+  keeps_at count core kept n =
+      record {
+        room = length-set slots k new ∙ (core.room ∙ sym (ap (λ (l : Jobs). l.slots) settled));
+        listed = λ j w. listed_at slots list.waiting k new h (λ i n. core.listed i) j (sym (ap (λ (ks : List ℕ). waits ks j) waiting_now) ∙ w);
+        kept = each_at IsKeptSlot slots k new h kept core.kept;
+        counted = each_at (IsCountedSlot (steps + count)) slots k new h n (λ j. more_counted (slot_at slots j) steps (steps + count) (omega arith) (core.counted j));
+      }
+
+  pub call_keeps : (count : ℕ) (request : Call) (bytes : List ℕ) (told : Reply) → IsCore slots list steps → IsAnswer old request bytes told new → IsStepOfSlot old new → count ≡ steps_of told → IsCore (set slots k new) list_new (steps + count)
+  call_keeps count request bytes told core a step e =
+      rw e (keeps_at (steps_of told) core step.kept (counted_after old new steps told step (blocked_same old new request bytes told a) (subst (IsCountedSlot steps) (sym found_there) (core.counted k))))
+
+  pub call_steps : (workers : List (Option ℕ)) (shut : Bool) (now : CoreState) (count : ℕ) (request : Call) (hold : HoldState) (told : Reply) → core_state slots list.waiting workers shut steps ≡ now → IsAnswer old request (handed_over request hold) told new → count ≡ steps_of told → IsCall now k request hold told (core_state (set slots k new) list_new.waiting workers shut (steps + count))
+  call_steps workers shut now count request hold told view a e =
+      rw (e, waiting_now, ← view) (called_at slots list.waiting workers shut steps k request hold told new h (subst (λ (s : Slot). IsAnswer s request (handed_over request hold) told new) found_there a))

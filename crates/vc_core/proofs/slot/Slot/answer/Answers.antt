@@ -1,0 +1,22 @@
+use Rattle.std.proofs.Common.{[], sym, ap, subst, ◌∙◌}
+use Rattle.vc_base.specs.declared.Errno.TheVariants.{NoTty}
+use Rattle.vc_base.specs.declared.Call.TheVariants.{Open}
+use Rattle.vc_base.specs.declared.Reply.TheVariants.{Refused}
+use Rattle.vc_model.specs.Context.{Context, Slot}
+use Rattle.vc_model.specs.Answer.{context_answer}
+use Rattle.vc_core.specs.Contexts.{GivesWithMemory, IsAnswer}
+use Rattle.vc_core.specs.Payloads.{handed_over}
+use Rattle.vc_core.proofs.Slots.{closed_view, copying_view, open_answers, closed_refuses, opened_fits}
+use Rattle.vc_core.proofs.slot.Slot.answer.Goals as goal
+
+pub returns-in-Copying-clause-answers : goal.returns-in-Copying-clause-answers
+returns-in-Copying-clause-answers c =
+    open_answers c.args.self.now c.in-Copying.copier.value c.answer.new.self c.args.call.now (handed_over c.args.call.now c.args.hold.now) c.answer.result (copying_view c.self.inside.content c.args.self.now c.in-Copying.copier c.self.view_is c.in-Copying.is) (subst (λ (x : Context). GivesWithMemory (context_answer x c.args.call.now (handed_over c.args.call.now c.args.hold.now)) c.answer.result c.answer.new.self) c.deref_mut.ensures.value c.answer.ensures.answers)
+
+pub returns-in-Some-clause-fit : goal.returns-in-Some-clause-fit
+returns-in-Some-clause-fit c =
+    opened_fits c.args.self.now c.open.new.self c.in-Some.kind c.open.result c.args.hold.now (closed_view c.self.inside.content c.args.self.now c.self.view_is c.in_default.is) (subst (λ (x : Slot). IsAnswer x (Open c.in-Some.kind) [] c.open.result c.open.new.self) c.self.view_is c.open.ensures.answers) c.requires.fits
+
+pub returns-in-None-clause-answers : goal.returns-in-None-clause-answers
+returns-in-None-clause-answers c =
+    subst (λ (x : Slot). IsAnswer c.args.self.now c.args.call.now (handed_over c.args.call.now c.args.hold.now) (Refused NoTty) x) (sym c.self.view_is) (closed_refuses c.args.self.now c.args.call.now (handed_over c.args.call.now c.args.hold.now) (closed_view c.self.inside.content c.args.self.now c.self.view_is c.in_default.is) (sym c.opened_kind.ensures ∙ c.in-None.is))

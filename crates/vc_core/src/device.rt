@@ -1,0 +1,163 @@
+//! The device.
+
+ghost use Rattle.std.specs.Prelude.{◌≡◌, ◌<◌, ◌≤◌, ◌^◌, ℕ, length, IfOk, None, replicate};
+ghost use Rattle.vc_model.specs.Devices.{slot_of, job_of, steps_of};
+ghost use Rattle.vc_model.specs.Core.{BroughtBack, new_core, core_claim, core_finish, core_shut, claimed_job};
+ghost use Rattle.vc_core.specs.Jobs.{Brings, HasJob, IsClaim, IsOfWorker};
+ghost use Rattle.vc_core.specs.Payloads.{FitsSlot, Moves};
+ghost use Rattle.vc_core.specs.Steps.{IsCall};
+
+use crate::job::{Finished, Job};
+use crate::slot::Slot;
+use std::alloc::Global;
+use std::marker::Model;
+use vc_base::{Call, NoMemory, Reply};
+use vc_jobs::JobList;
+use vc_queue::hold::Hold;
+
+/// The device: its slots, the list of those that wait for a worker, and which slot's job each worker has.
+/// Contracts see it as the state of the device, without the data that the running jobs have.
+///
+/// Each call but a look is one step; fewer than 2^62 steps are made. A call that answers `Blocked` and a
+/// claim that finds nothing are none.
+#[derive(Drop)]
+pub struct Core {
+    alloc: Global,
+    slots: Vec<Slot>,
+    list: JobList,
+    workers: Vec<Option<u32>>,
+    shut: bool,
+    steps: u64,
+}
+
+impl Model for Core {
+    ghost use Rattle.vc_model.specs.Standing.{CoreState};
+    ghost use Rattle.vc_core.specs.Steps.{IsCore};
+
+    ghost Value = { CoreState };
+
+    ghost view = { λ c. record { slots = c.slots.items; waiting = c.list.waiting; workers = c.workers.items; is_shut = c.shut; steps = c.steps } };
+
+    ghost invariant = { λ c. IsCore c.slots.items c.list c.steps };
+}
+
+/// So many closed slots.
+fn closed_slots(alloc: Global, number: u32) -> Result<Vec<Slot>, NoMemory>
+    ensures { IfOk result (λ slots. slots.items ≡ replicate number None) }
+{
+    let mut slots = Vec::new(alloc);
+    for _slot in 0..number {
+        let Ok(()) = slots.push(Slot::new()) else {
+            return Err(NoMemory);
+        };
+    }
+    Ok(slots)
+}
+
+/// The number of steps that a reply stands for.
+fn steps_of(reply: &Reply) -> u64
+    ensures { result ≡ steps_of reply.now }
+{
+    match reply {
+        Reply::Blocked => 0,
+        _ => 1,
+    }
+}
+
+impl Core {
+    /// A device of 1 to 1,024 closed slots and 1 to 64 workers without a job. NoMemory says that memory for
+    /// it was refused.
+    pub fn make(alloc: Global, slots: u32, workers: u32) -> Result<Core, NoMemory>
+        requires slots { (0 < slots) × (slots ≤ 1024) }
+        requires workers { (0 < workers) × (workers ≤ 64) }
+        ensures { IfOk result (λ core. core ≡ new_core slots workers) }
+    {
+        let list = JobList::make(alloc, slots)?;
+        let contents = closed_slots(alloc, slots)?;
+        let workers = vec![in alloc; None; workers as usize]?;
+        Ok(Core {
+            alloc,
+            slots: contents,
+            list,
+            workers,
+            shut: false,
+            steps: 0,
+        })
+    }
+
+    /// Makes a call on a slot, with the payloads of the slot's user. docs/DEVICE.md has the table of calls:
+    /// the tests of a call are made in order, a refusal and `Blocked` change nothing, and ENOMEM comes after
+    /// every other test.
+    pub fn call(&mut self, slot: u32, call: &Call, hold: &mut Hold) -> Reply
+        requires slot { slot < length self.old.slots }
+        requires fits { FitsSlot (slot_of self.old slot) hold.old }
+        requires counts { self.old.steps < 2 ^ 62 }
+        ensures step { IsCall self.old slot call.now hold.old result self.new }
+        ensures payloads { Moves (slot_of self.old slot) call.now result hold.old hold.new }
+        ensures fit { FitsSlot (slot_of self.new slot) hold.new }
+    {
+        let context = &mut self.slots[slot as usize];
+        let reply = context.answer(self.alloc, call, hold);
+        let is_due = context.is_claimable();
+        self.list.settle(slot, is_due);
+        self.steps += steps_of(&reply);
+        reply
+    }
+
+    /// Gives the worker the job of the slot that waits longest, or none where no slot waits.
+    pub fn claim(&mut self, worker: u32) -> Option<Job>
+        requires worker { worker < length self.old.workers }
+        requires free { job_of self.old worker ≡ None }
+        requires counts { self.old.steps < 2 ^ 62 }
+        ensures step { self.new ≡ (core_claim self.old worker).device }
+        ensures job { IsClaim self.old.waiting (claimed_job self.old) result }
+    {
+        let slot = self.list.take_front()?;
+        let context = &mut self.slots[slot as usize];
+        let job = context.claim(slot);
+        self.workers[worker as usize] = Some(slot);
+        self.steps += 1;
+        Some(job)
+    }
+
+    /// Takes the job of a worker back, run or given up.
+    pub fn finish(&mut self, worker: u32, finished: Finished)
+        requires worker { worker < length self.old.workers }
+        requires job { IsOfWorker self.old worker finished }
+        requires counts { self.old.steps < 2 ^ 62 }
+        ensures { (k : ℕ) (back : BroughtBack) → HasJob self.old worker k back.job → Brings k back finished → self.new ≡ (core_finish self.old worker back).device }
+    {
+        let Some(slot) = self.workers[worker as usize] else {
+            unreachable!()
+        };
+        self.workers[worker as usize] = None;
+        let context = &mut self.slots[slot as usize];
+        context.finish(finished);
+        let is_due = context.is_claimable();
+        self.list.settle(slot, is_due);
+        self.steps += 1;
+    }
+
+    /// The number of steps so far.
+    pub fn count(&self) -> u64
+        ensures { result ≡ self.now.steps }
+    {
+        self.steps
+    }
+
+    /// Marks the device as shut; all else stays.
+    pub fn shut(&mut self)
+        requires counts { self.old.steps < 2 ^ 62 }
+        ensures { self.new ≡ (core_shut self.old).device }
+    {
+        self.shut = true;
+        self.steps += 1;
+    }
+
+    /// Whether the device is shut.
+    pub fn is_shut(&self) -> bool
+        ensures { result ≡ self.now.is_shut }
+    {
+        self.shut
+    }
+}

@@ -1,0 +1,195 @@
+//! A slot of the device: it is closed, or has a context.
+
+ghost use Rattle.std.specs.Prelude.{◌≡◌, ℕ, true, false, Some, None, List, [], IfSome};
+ghost use Rattle.vc_base.specs.declared.Reply.TheVariants.{Refused};
+ghost use Rattle.vc_base.specs.declared.Errno.TheVariants.{NoMem};
+ghost use Rattle.vc_base.specs.declared.Call.TheVariants.{Open, Close};
+ghost use Rattle.vc_model.specs.Core.{BroughtBack, claimed_in};
+ghost use Rattle.vc_model.specs.Runs.{is_claimable};
+ghost use Rattle.vc_model.specs.Context.{fresh_context};
+ghost use Rattle.vc_core.specs.Contexts.{IsKeptSlot, IsStepOfSlot, SlotHasRoom, IsAnswer, opened_kind, is_close, claimed_slot, finished_slot};
+ghost use Rattle.vc_core.specs.Jobs.{IsJobWith, IsOfSlot, RunsInSlot, Brings};
+ghost use Rattle.vc_core.specs.Payloads.{FitsSlot, Moves, handed_over};
+
+use crate::copier::Copier;
+use crate::job::{Finished, Job};
+use std::alloc::Global;
+use std::marker::Model;
+use vc_base::{Call, Errno, Kind, Reply};
+use vc_queue::hold::Hold;
+
+/// What a slot has. Contexts that encode and decode become further variants.
+#[derive(Drop)]
+enum Content {
+    Closed,
+    Copying(Box<Copier>),
+}
+
+/// A slot of the device.
+#[derive(Drop)]
+pub(crate) struct Slot {
+    content: Content,
+}
+
+impl Model for Slot {
+    ghost use Rattle.vc_model.specs.Context.{Slot as SlotState};
+    ghost use Rattle.vc_core.specs.Contents.{slot_state};
+
+    ghost Value = { SlotState };
+
+    ghost view = { λ s. slot_state s.content };
+}
+
+/// The kind of context that a call opens.
+fn opened_kind(call: &Call) -> Option<Kind>
+    ensures { result ≡ opened_kind call.now }
+{
+    match *call {
+        Call::Open { kind } => Some(kind),
+        _ => None,
+    }
+}
+
+/// Whether the call closes the slot.
+fn is_close(call: &Call) -> bool
+    ensures { result ≡ is_close call.now }
+{
+    matches!(call, Call::Close)
+}
+
+/// The reply where no memory is found.
+fn no_memory() -> Reply
+    ensures { result ≡ Refused NoMem }
+{
+    Reply::Refused {
+        errno: Errno::NoMem,
+    }
+}
+
+impl Slot {
+    /// A closed slot.
+    pub(crate) fn new() -> Slot
+        ensures { result ≡ None }
+    {
+        Slot {
+            content: Content::Closed,
+        }
+    }
+
+    /// Answers a call.
+    pub(crate) fn answer(&mut self, alloc: Global, call: &Call, hold: &mut Hold) -> Reply
+        requires kept { IsKeptSlot self.old }
+        requires room { SlotHasRoom self.old }
+        requires fits { FitsSlot self.old hold.old }
+        ensures answers { IsAnswer self.old call.now (handed_over call.now hold.old) result self.new }
+        ensures step { IsStepOfSlot self.old self.new }
+        ensures moves { Moves self.old call.now result hold.old hold.new }
+        ensures fit { FitsSlot self.new hold.new }
+    {
+        if is_close(call) {
+            return self.close(hold);
+        }
+        if let Content::Copying(copier) = &mut self.content {
+            return copier.answer(alloc, call, hold);
+        }
+        match opened_kind(call) {
+            Some(kind) => self.open(alloc, kind),
+            None => Reply::Refused {
+                errno: Errno::NoTty,
+            },
+        }
+    }
+
+    /// A slot with a fresh context, where memory for it is found. There are no contexts yet that encode or
+    /// decode: these find none.
+    fn opened(alloc: Global, kind: Kind) -> Option<Slot>
+        ensures { IfSome result (λ slot. slot ≡ Some (fresh_context kind)) }
+    {
+        match kind {
+            Kind::Copy => {
+                let Ok(copier) = Box::new(alloc, Copier::new()) else {
+                    return None;
+                };
+                Some(Slot {
+                    content: Content::Copying(copier),
+                })
+            }
+            Kind::Enc => None,
+            Kind::Dec => None,
+        }
+    }
+
+    /// Opens the closed slot.
+    fn open(&mut self, alloc: Global, kind: Kind) -> Reply
+        requires closed { self.old ≡ None }
+        ensures answers { IsAnswer self.old (Open kind) [] result self.new }
+        ensures step { IsStepOfSlot self.old self.new }
+    {
+        let Some(slot) = Slot::opened(alloc, kind) else {
+            return no_memory();
+        };
+        *self = slot;
+        Reply::Done
+    }
+
+    /// Closes the slot, unless a job of it runs, and drops its payloads.
+    fn close(&mut self, hold: &mut Hold) -> Reply
+        requires fits { FitsSlot self.old hold.old }
+        requires kept { IsKeptSlot self.old }
+        ensures answers { IsAnswer self.old Close [] result self.new }
+        ensures step { IsStepOfSlot self.old self.new }
+        ensures moves { Moves self.old Close result hold.old hold.new }
+        ensures fit { FitsSlot self.new hold.new }
+    {
+        let Content::Copying(copier) = &self.content else {
+            return Reply::Refused {
+                errno: Errno::NoTty,
+            };
+        };
+        if copier.is_running() {
+            return Reply::Blocked;
+        }
+        *self = Slot::new();
+        *hold = Hold::new();
+        Reply::Done
+    }
+
+    /// Whether a job of the slot can be claimed.
+    pub(crate) fn is_claimable(&self) -> bool
+        ensures { result ≡ is_claimable self.now }
+    {
+        match &self.content {
+            Content::Closed => false,
+            Content::Copying(copier) => copier.is_claimable(),
+        }
+    }
+
+    /// Takes the next job.
+    pub(crate) fn claim(&mut self, slot: u32) -> Job
+        requires kept { IsKeptSlot self.old }
+        requires due { is_claimable self.old ≡ true }
+        ensures after { self.new ≡ claimed_slot self.old }
+        ensures step { IsStepOfSlot self.old self.new }
+        ensures job { IsJobWith slot (claimed_in self.old) result }
+        ensures taken { is_claimable self.new ≡ false }
+    {
+        let Content::Copying(copier) = &mut self.content else {
+            unreachable!()
+        };
+        copier.claim(slot)
+    }
+
+    /// Takes a job back.
+    pub(crate) fn finish(&mut self, finished: Finished)
+        requires kept { IsKeptSlot self.old }
+        requires room { SlotHasRoom self.old }
+        requires back { IsOfSlot self.old finished }
+        ensures after { (k : ℕ) (back : BroughtBack) → RunsInSlot self.old back.job → Brings k back finished → self.new ≡ finished_slot self.old back }
+        ensures step { IsStepOfSlot self.old self.new }
+    {
+        let Content::Copying(copier) = &mut self.content else {
+            unreachable!()
+        };
+        copier.finish(finished);
+    }
+}
