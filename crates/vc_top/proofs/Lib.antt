@@ -1,0 +1,5 @@
+mod Carrying
+mod DeviceJobs
+mod Feeds
+mod KeepingJobs
+mod Reading

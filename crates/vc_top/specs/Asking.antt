@@ -1,0 +1,46 @@
+-- What the lines of a script ask for, as far as the device is built.
+use Rattle.std.specs.Prelude.{ℕ, Bool, true, false, if◌then◌else◌, Option, Some, None, List, [], ◌∷◌}
+use Rattle.vc_base.specs.declared.Kind.TheVariants.{Copy, Enc, Dec}
+use Rattle.vc_base.specs.declared.Call.{Call}
+use Rattle.vc_base.specs.declared.Call.TheVariants.{Open}
+use Rattle.vc_script.specs.declared.line.Line.{Line}
+use Rattle.vc_script.specs.declared.line.Line.TheVariants as lines
+use Rattle.vc_script.specs.Lines.{line_of}
+use Rattle.vc_model.specs.Script.{Asked, AsksNothing, AsksCall, AsksClaim, AsksFinish, AsksRun}
+
+-- Contexts that encode and decode aren't built yet: a line that opens one is bad.
+abbrev pub is_built_call : Call → Bool
+is_built_call (Open Copy) = true
+is_built_call (Open Enc) = false
+is_built_call (Open Dec) = false
+is_built_call request = true
+
+abbrev pub is_built : Option Line → Bool
+is_built (Some (lines.Call slot request bytes)) = is_built_call request
+is_built line = true
+
+-- what a line asks for
+abbrev pub asked_of : Option Line → Asked
+asked_of None = AsksNothing
+asked_of (Some (lines.Call slot request bytes)) = AsksCall slot request bytes
+asked_of (Some (lines.Claim worker)) = AsksClaim worker
+asked_of (Some (lines.Finish worker)) = AsksFinish worker
+asked_of (Some (lines.Run worker)) = AsksRun worker
+
+abbrev pub if_built : Option (Option Line) → Option Asked
+if_built None = None
+if_built (Some line) = if is_built line then Some (asked_of line) else None
+
+-- what a line asks for, among so many slots; none where the line is bad
+abbrev pub asks_line : ℕ → List ℕ → Option Asked
+asks_line slots line = if_built (line_of slots line)
+
+abbrev pub with_rest : Option Asked → Option (List Asked) → Option (List Asked)
+with_rest None rest = None
+with_rest (Some asked) None = None
+with_rest (Some asked) (Some rest) = Some (asked ∷ rest)
+
+-- what the lines of a script ask for; none where one of them is bad
+abbrev pub asks_lines : ℕ → List (List ℕ) → Option (List Asked)
+asks_lines slots [] = Some []
+asks_lines slots (line ∷ rest) = with_rest (asks_line slots line) (asks_lines slots rest)

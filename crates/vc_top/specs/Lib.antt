@@ -1,0 +1,4 @@
+pub mod Asking
+pub mod Does
+pub mod Input
+pub mod Words
