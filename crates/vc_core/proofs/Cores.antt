@@ -1,6 +1,6 @@
 -- The steps of a core, as its fields change.
-use Rattle.std.proofs.Common.{ℕ, zero, suc, ◌≡◌, ◌<◌, ◌≤◌, ◌+◌, ◌^◌, ltb, eqb, nat_eq, Bool, true, false, not, ◌||◌, cond, Option, Some, None, List, [], ◌∷◌, ◌++◌, length, get_or, set, length-set, get_or-set_same, get_or-set_other, ⊎_elim, inl, inr, ◌⊎◌, eqb-true, ltb-false, refl, sym, ap, ◌∙◌, subst, arith}
-use Rattle.std.specs.Prelude.{◌==◌, replicate, is_none}
+use Rattle.std.proofs.Common.{ℕ, zero, suc, ◌≡◌, ◌<◌, ◌≤◌, ◌+◌, ◌^◌, ltb, eqb, nat_eq, Bool, true, false, not, ◌||◌, cond, Option, Some, None, List, [], ◌∷◌, ◌++◌, length, get_or, set, length-set, get_or-set_same, get_or-set_other, ⊎_elim, inl, inr, ◌⊎◌, eqb-true, ltb-true, ltb-false, refl, sym, ap, ◌∙◌, subst, arith}
+use Rattle.std.specs.Prelude.{◌==◌, is_none, is_some}
 use Rattle.std.specs.List.{filter, list_any}
 use Rattle.std.proofs.lemmas.Bool.{false≢true, cases_eq}
 use Rattle.vc_base.specs.declared.Call.{Call}
@@ -15,7 +15,7 @@ use Rattle.vc_model.specs.Devices.{DeviceState, DeviceStep, Told, slot_of, job_o
 use Rattle.vc_model.specs.JobList.{waits}
 use Rattle.vc_model.specs.Standing.{CoreState, without_job}
 use Rattle.vc_model.specs.Core.{BroughtBack, core_call, core_claim, core_claim_first, core_claim_slot, core_finish, core_finish_of, core_finish_slot, core_finish_job, claimed_job, claimed_first, claimed_in, finished_context}
-use Rattle.vc_model.proofs.Listing.{without_other, without_same}
+use Rattle.vc_model.proofs.Listing.{without_other, without_same, behind_front, front_waits}
 use Rattle.vc_model.proofs.Blocking.{blocked_stays}
 use Rattle.vc_queue.specs.Holds.{HoldState}
 use Rattle.vc_jobs.specs.Jobs.{Jobs}
@@ -139,6 +139,115 @@ called_at slots waiting workers shut steps k request hold told new h a =
       want = a.want;
     }
 
+-- A finish
+
+finish_job_at : (core : CoreState) (worker k : ℕ) (c : Context) (o : Option Running) (back : BroughtBack) → is_some o ≡ true → (core_finish_job core worker k c o back).device ≡ counted (with_slot (record core { workers = set core.workers worker None }) k (Some (finished_context c back))) 1
+finish_job_at core worker k c None back e = absurd (false≢true e)
+finish_job_at core worker k c (Some r) back e = refl
+
+finish_slot_at : (core : CoreState) (worker k : ℕ) (s : Slot) (back : BroughtBack) → RunsInSlot s back.job → (core_finish_slot core worker k s back).device ≡ counted (with_slot (record core { workers = set core.workers worker None }) k (finished_slot s back)) 1
+finish_slot_at core worker k None back h = absurd h
+finish_slot_at core worker k (Some c) back h = finish_job_at core worker k c c.running back h.running
+
+finished_core : (slots : List Slot) (waiting : List ℕ) (workers : List (Option ℕ)) (shut : Bool) (steps k : ℕ) (old new : Slot) (worker : ℕ) (back : BroughtBack) (now : CoreState) → core_state slots waiting workers shut steps ≡ now → job_of now worker ≡ Some k → slot_of now k ≡ old → RunsInSlot old back.job → new ≡ finished_slot old back → core_state (set slots k new) (waiting_after waiting k (is_claimable new)) (set workers worker None) shut (steps + 1) ≡ (core_finish now worker back).device
+unfolding with_slot
+finished_core slots waiting workers shut steps k old new worker back now view has here runs made =
+    let a : (core_finish now worker back).device ≡ (core_finish_slot now worker k (slot_of now k) back).device = ap (λ (o : Option ℕ). (core_finish_of now worker o back).device) has in
+    let b : (core_finish_slot now worker k (slot_of now k) back).device ≡ (core_finish_slot now worker k old back).device = ap (λ (s : Slot). (core_finish_slot now worker k s back).device) here in
+    let d = finish_slot_at now worker k old back runs in
+    let e : counted (with_slot (record now { workers = set now.workers worker None }) k (finished_slot old back)) 1 ≡ core_state (set slots k new) (waiting_after waiting k (is_claimable new)) (set workers worker None) shut (steps + 1) = rw (← view, ← made) refl in
+    sym (a ∙ (b ∙ (d ∙ e)))
+
+-- the job of the worker is of a slot of the core
+
+pub has_at : (slots : List Slot) (waiting : List ℕ) (workers : List (Option ℕ)) (shut : Bool) (steps : ℕ) (now : CoreState) (worker k : ℕ) (o : Option ℕ) → core_state slots waiting workers shut steps ≡ now → worker < length now.workers → o ≡ get_or workers worker o → o ≡ Some k → job_of now worker ≡ Some k
+has_at slots waiting workers shut steps now worker k o view h there e =
+    let h' : worker < length workers = subst (λ (x : CoreState). worker < length x.workers) (sym view) h in
+    ap (λ (x : CoreState). job_of x worker) (sym view) ∙ (sym (there ∙ any_default workers worker o None h') ∙ e)
+
+past_end : (slots : List Slot) (k : ℕ) → length slots ≤ k → slot_at slots k ≡ None
+past_end [] k h = refl
+past_end (s ∷ slots) zero h = absurd (omega (arith, h))
+past_end (s ∷ slots) (suc k) h = past_end slots k (omega (arith, h))
+
+below_or : (slots : List Slot) (k : ℕ) (j : JobData) → RunsInSlot (slot_at slots k) j → (b : Bool) → ltb k (length slots) ≡ b → k < length slots
+below_or slots k j h true e = ltb-true k (length slots) e
+below_or slots k j h false e =
+    absurd (subst (λ (s : Slot). RunsInSlot s j) (past_end slots k (ltb-false k (length slots) e)) h)
+
+pub slot_within : (slots : List Slot) (waiting : List ℕ) (workers : List (Option ℕ)) (shut : Bool) (steps : ℕ) (now : CoreState) (worker k : ℕ) (finished : job.Finished) → core_state slots waiting workers shut steps ≡ now → job_of now worker ≡ Some k → IsOfWorker now worker finished → k < length slots
+slot_within slots waiting workers shut steps now worker k finished view has of =
+    let e : of.slot ≡ k = cc (sym of.job.of_slot ∙ has) in
+    let runs : RunsInSlot (slot_of now k) of.back.job = subst (λ (i : ℕ). RunsInSlot (slot_of now i) of.back.job) e of.job.data_there in
+    below_or slots k of.back.job (subst (λ (x : CoreState). RunsInSlot (slot_of x k) of.back.job) (sym view) runs) (ltb k (length slots)) refl
+
+-- A claim
+
+front_is : (ks : List ℕ) (k : ℕ) → jobs.front_of ks ≡ Some k → ks ≡ k ∷ jobs.rest_of ks
+front_is [] k e = cc
+front_is (x ∷ ks) k e = let f : x ≡ k = cc in ap (λ y. y ∷ ks) f
+
+kept_split : (x k : ℕ) (ks : List ℕ) → filter (λ j. not (j == k)) ks ≡ ks → (b : Bool) → (b || waits ks k) ≡ false → cond (not b) (x ∷ filter (λ j. not (j == k)) ks) (filter (λ j. not (j == k)) ks) ≡ x ∷ ks
+kept_split x k ks h true e = absurd (false≢true (sym e))
+kept_split x k ks h false e = ap (λ l. x ∷ l) h
+
+rest_split : (b c : Bool) → (b || c) ≡ false → c ≡ false
+rest_split true c e = absurd (false≢true (sym e))
+rest_split false c e = e
+
+not_there : (ks : List ℕ) (k : ℕ) → waits ks k ≡ false → filter (λ j. not (j == k)) ks ≡ ks
+not_there [] k e = refl
+not_there (x ∷ ks) k e =
+    kept_split x k ks (not_there ks k (rest_split (eqb x k) (waits ks k) e)) (eqb x k) e
+
+claim_slot_at : (core : CoreState) (worker k : ℕ) (s : Slot) → is_claimable s ≡ true → (core_claim_slot core worker k s).device ≡ counted (with_slot (record core { workers = set core.workers worker (Some k) }) k (claimed_slot s)) 1
+unfolding is_claimable
+claim_slot_at core worker k None e = absurd (false≢true e)
+claim_slot_at core worker k (Some c) e = refl
+
+claimed_core : (slots : List Slot) (waiting : List ℕ) (workers : List (Option ℕ)) (shut : Bool) (steps k : ℕ) (rest : List ℕ) (old new : Slot) (worker : ℕ) (now : CoreState) → core_state slots waiting workers shut steps ≡ now → worker < length now.workers → job_of now worker ≡ None → waiting ≡ k ∷ rest → waits rest k ≡ false → slot_of now k ≡ old → is_claimable old ≡ true → new ≡ claimed_slot old → is_claimable new ≡ false → core_state (set slots k new) rest (set workers worker (Some k)) shut (steps + 1) ≡ (core_claim now worker).device
+unfolding with_slot
+claimed_core slots waiting workers shut steps k rest old new worker now view w free front gone here due made taken =
+    let there : ltb worker (length now.workers) ≡ true = within worker (length now.workers) w (ltb worker (length now.workers)) refl in
+    let front_now : now.waiting ≡ k ∷ rest = ap (λ (x : CoreState). x.waiting) (sym view) ∙ front in
+    let first : (core_claim now worker).device ≡ (core_claim_first now worker (k ∷ rest)).device = rw (there, free, front_now) refl in
+    let old_there : (core_claim_first now worker (k ∷ rest)).device ≡ (core_claim_slot (record now { waiting = rest }) worker k old).device = ap (λ (s : Slot). (core_claim_slot (record now { waiting = rest }) worker k s).device) here in
+    let d = claim_slot_at (record now { waiting = rest }) worker k old due in
+    let list : waiting_after rest k (is_claimable new) ≡ rest = ap (waiting_after rest k) taken ∙ not_there rest k gone in
+    let e : counted (with_slot (record now { waiting = rest; workers = set now.workers worker (Some k) }) k (claimed_slot old)) 1 ≡ core_state (set slots k new) rest (set workers worker (Some k)) shut (steps + 1) = rw (← made, list, ← view) refl in
+    sym (first ∙ (old_there ∙ (d ∙ e)))
+
+module _ (slots : List Slot) (list list_new : Jobs) (steps k : ℕ) (old new : Slot) (core : IsCore slots list steps) (front : Some k ≡ jobs.front_of list.waiting) (settled : list_new ≡ jobs.with_waiting list (jobs.rest_of list.waiting)) (below : k < list_new.slots) (gone : waits list_new.waiting k ≡ false) (there : old ≡ get_or slots k old) where
+  slot_below : k < length slots
+  slot_below =
+      let e : list_new.slots ≡ list.slots = ap (λ (l : Jobs). l.slots) settled in
+      omega (arith, below, e, core.room)
+
+  old_is : old ≡ slot_at slots k
+  old_is = there ∙ any_default slots k old None slot_below
+
+  waiting_is : list.waiting ≡ k ∷ list_new.waiting
+  waiting_is =
+      front_is list.waiting k (sym front) ∙ ap (λ (ks : List ℕ). k ∷ ks) (sym (ap (λ (l : Jobs). l.waiting) settled))
+
+  pub front_due : is_claimable old ≡ true
+  front_due =
+      ap is_claimable old_is ∙ core.listed k (ap (λ (ks : List ℕ). waits ks k) waiting_is ∙ front_waits k list_new.waiting)
+
+  pub claim_keeps : IsStepOfSlot old new → IsCore (set slots k new) list_new (steps + 1)
+  claim_keeps step =
+      record {
+        room = length-set slots k new ∙ (core.room ∙ sym (ap (λ (l : Jobs). l.slots) settled));
+        listed = λ j w. let n : j ≡ k → ⊥ = λ (e : j ≡ k). false≢true (sym gone ∙ (ap (waits list_new.waiting) (sym e) ∙ w)) in ap is_claimable (other_at slots k j new n) ∙ core.listed j (ap (λ (ks : List ℕ). waits ks j) waiting_is ∙ (sym (behind_front k j list_new.waiting n) ∙ w));
+        kept = each_at IsKeptSlot slots k new slot_below step.kept core.kept;
+        counted = each_at (IsCountedSlot (steps + 1)) slots k new slot_below (step.counted steps (subst (IsCountedSlot steps) (sym old_is) (core.counted k))) (λ j. more_counted (slot_at slots j) steps (steps + 1) (omega arith) (core.counted j));
+      }
+
+  pub claim_steps : (workers : List (Option ℕ)) (shut : Bool) (now : CoreState) (worker : ℕ) → core_state slots list.waiting workers shut steps ≡ now → worker < length now.workers → job_of now worker ≡ None → new ≡ claimed_slot old → is_claimable new ≡ false → core_state (set slots k new) list_new.waiting (set workers worker (Some k)) shut (steps + 1) ≡ (core_claim now worker).device
+  claim_steps workers shut now worker view w free made taken =
+      let here : slot_of now k ≡ old = ap (λ (x : CoreState). slot_of x k) (sym view) ∙ sym old_is in
+      claimed_core slots list.waiting workers shut steps k list_new.waiting old new worker now view w free waiting_is gone here front_due made taken
+
 module _ (slots : List Slot) (list list_new : Jobs) (steps k : ℕ) (old new : Slot) (due : Bool) (h : k < length slots) (there : old ≡ get_or slots k old) (is_due : due ≡ is_claimable new) (settled : list_new ≡ jobs.with_waiting list (jobs.waiting_after list.waiting k due)) where
   found_there : old ≡ slot_at slots k
   found_there = there ∙ any_default slots k old None h
@@ -164,3 +273,17 @@ module _ (slots : List Slot) (list list_new : Jobs) (steps k : ℕ) (old new : S
   pub call_steps : (workers : List (Option ℕ)) (shut : Bool) (now : CoreState) (count : ℕ) (request : Call) (hold : HoldState) (told : Reply) → core_state slots list.waiting workers shut steps ≡ now → IsAnswer old request (handed_over request hold) told new → count ≡ steps_of told → IsCall now k request hold told (core_state (set slots k new) list_new.waiting workers shut (steps + count))
   call_steps workers shut now count request hold told view a e =
       rw (e, waiting_now, ← view) (called_at slots list.waiting workers shut steps k request hold told new h (subst (λ (s : Slot). IsAnswer s request (handed_over request hold) told new) found_there a))
+
+  -- A finish
+
+  pub finish_keeps : IsCore slots list steps → IsStepOfSlot old new → IsCore (set slots k new) list_new (steps + 1)
+  finish_keeps core step =
+      keeps_at 1 core step.kept (step.counted steps (subst (IsCountedSlot steps) (sym found_there) (core.counted k)))
+
+  pub finish_steps : (workers : List (Option ℕ)) (shut : Bool) (now : CoreState) (worker k2 : ℕ) (back : BroughtBack) (finished : job.Finished) → core_state slots list.waiting workers shut steps ≡ now → job_of now worker ≡ Some k → HasJob now worker k2 back.job → Brings k2 back finished → ((i : ℕ) (b : BroughtBack) → RunsInSlot old b.job → Brings i b finished → new ≡ finished_slot old b) → core_state (set slots k new) list_new.waiting (set workers worker None) shut (steps + 1) ≡ (core_finish now worker back).device
+  finish_steps workers shut now worker k2 back finished view has j b after =
+      let e : k2 ≡ k = cc (sym j.of_slot ∙ has) in
+      let here : slot_of now k ≡ old = ap (λ (x : CoreState). slot_of x k) (sym view) ∙ sym found_there in
+      let runs : RunsInSlot old back.job = subst (λ (s : Slot). RunsInSlot s back.job) here (subst (λ (i : ℕ). RunsInSlot (slot_of now i) back.job) e j.data_there) in
+      let made : new ≡ finished_slot old back = after k2 back runs b in
+      rw waiting_now (finished_core slots list.waiting workers shut steps k old new worker back now view has here runs made)

@@ -1,19 +1,18 @@
 -- How large coefficients and values can be.
-use Rattle.std.proofs.Common.{◌≡◌, ◌∙◌, sym, ap, refl, subst, ℕ, suc, zero, ◌+◌, ◌*◌, ◌/◌, ◌%◌, ◌^◌, ◌<◌, ◌≤◌, inl, inr, List, [], ◌∷◌, length, get_or, map, arith}
+use Rattle.std.proofs.Common.{◌≡◌, ◌∙◌, sym, refl, subst, ℕ, suc, zero, ◌+◌, ◌*◌, ◌/◌, ◌%◌, ◌^◌, ◌<◌, ◌≤◌, inl, inr, List, [], ◌∷◌, length, get_or, arith}
 use Rattle.std.specs.Prelude.{ℤ, pos, negsuc, neg_ℤ, ◌+ℤ◌, ◌-ℤ◌, ◌*ℤ◌, ◌≤ℤ◌, ◌⊎◌, Bool, true, false, ◌&&◌, not, nat_le, unsigned_abs, cond}
-use Rattle.std.specs.List.{range_with_len, list_all, All}
+use Rattle.std.specs.List.{range_with_len, list_all}
 use Rattle.std.specs.Int.{int_shr}
 use Rattle.std.proofs.Math.Nat.{mul-le-mul_left}
 use Rattle.std.proofs.Math.Pow.{pow_mono}
 use Rattle.std.proofs.lemmas.Int.{ints}
 use Rattle.std.proofs.lemmas.Bool.{and_parts, agree_below_at}
 use Rattle.std.proofs.lemmas.Bool.Decides.{nat_tests}
-use Rattle.std.proofs.lemmas.List.Elements.{All-from_get_or}
 use Rattle.std.proofs.lemmas.List.FromFn.{length-map-range_with_len}
 use Rattle.vc_defs.specs.declared.TheConstants.{WALSH}
 use Rattle.vc_defs.specs.Walsh.{sum_below, entry_at, walsh, coefficient, transformed}
-use Rattle.vc_defs.specs.Quantiser.{shift_at, quantised_by, quantised, without_small, AreCoefficients, AreValues}
-use Rattle.vc_defs.specs.Planes.{Block, Allowed, base_of, differences, prefers_inter, coded_as, coded_block, coded_blocks, block_of, block_count, padded_sample, blocks_across}
+use Rattle.vc_defs.specs.Quantiser.{shift_at, quantised_by, quantised, without_small, AreCoefficients}
+use Rattle.vc_defs.specs.Planes.{Block, base_of, differences, prefers_inter, coded_as, coded_block, coded_blocks, block_of, block_count, padded_sample, blocks_across}
 use Rattle.vc_defs.specs.Laws.{AreBytes, IsBlock, CoefficientsFit, QuantisedFit, CodedBlocksFit}
 use Rattle.vc_defs.proofs.Tables.{entry_of_table, length_of_table}
 use Rattle.vc_defs.proofs.Pictures.{all_made, all_entry}

@@ -1,11 +1,9 @@
 -- What an encoder writes is in range, and its reconstruction is a picture.
-use Rattle.std.proofs.Common.{◌≡◌, ◌∙◌, sym, ap, refl, subst, ℕ, suc, zero, ◌+◌, ◌*◌, ◌/◌, ◌%◌, ◌<◌, ◌≤◌, inl, inr, List, [], ◌∷◌, ◌++◌, length, take, drop, get_or, map, arith, length-append}
-use Rattle.std.specs.Prelude.{Bool, true, false, ◌&&◌, not, nat_eq, nat_le, nat_lt, min, cond}
-use Rattle.std.specs.List.{range_with_len, flat_map, list_all, All}
-use Rattle.std.specs.declared.option.Option.{Option}
-use Rattle.std.specs.declared.option.Option.TheVariants.{Some, None}
+use Rattle.std.proofs.Common.{◌≡◌, ◌∙◌, ap, refl, ℕ, suc, ◌+◌, ◌*◌, ◌/◌, ◌%◌, ◌<◌, ◌≤◌, List, [], ◌∷◌, ◌++◌, length, take, drop, get_or, map, arith, length-append}
+use Rattle.std.specs.Prelude.{Bool, true, false, ◌&&◌, not, nat_eq, nat_le, nat_lt, cond}
+use Rattle.std.specs.List.{list_all}
 use Rattle.std.proofs.Math.Nat.{mul-le-mul_left}
-use Rattle.std.proofs.lemmas.Bool.{and_parts, and_from, cond-true, cond-false}
+use Rattle.std.proofs.lemmas.Bool.{and_parts, and_from}
 use Rattle.std.proofs.lemmas.Bool.Decides.{nat_tests}
 use Rattle.std.proofs.lemmas.List.{length-map}
 use Rattle.std.proofs.lemmas.List.FromFn.{length-map-range_with_len}
@@ -13,15 +11,14 @@ use Rattle.std.proofs.lemmas.List.Elements.{All-head, All-tail, All-nil, All-con
 use Rattle.vc_defs.specs.declared.Layout.{Layout}
 use Rattle.vc_defs.specs.declared.Layout.TheVariants.{Grey, C420, C422}
 use Rattle.vc_defs.specs.declared.Geometry.{Geometry}
-use Rattle.vc_defs.specs.declared.Header.{Header}
 use Rattle.vc_defs.specs.Headers.{most_bytes, is_legal, is_legal_geometry, is_legal_size, size_suits, raw_suits, is_legal_number, is_whole_header}
 use Rattle.vc_defs.specs.Words.{word_bytes, words_bytes}
 use Rattle.vc_defs.specs.Planes.{Block, Entry, padded, padded_plane, padded_sample, raw_sample, raw_plane, entry_bytes, entries_bytes, head_word, canon_plane, entries_after, is_raw, coded_blocks, decoded_plane, WrittenPlane, written_plane}
 use Rattle.vc_defs.specs.Bodies.{IsPicture, shapes_of, plane_shapes, padded_total, padded_sum}
 use Rattle.vc_defs.specs.Raw.{layout_of, raw_of, planes_of}
-use Rattle.vc_defs.specs.Decoder.{ReferenceState, reference_planes}
-use Rattle.vc_defs.specs.Encoder.{RunRates, EncoderState, Encoded, encoded_picture, written_planes, body_of, is_key_due, next_encoded, encoder_after, encoded_bytes, encode}
-use Rattle.vc_defs.specs.Laws.{AreBytes, IsReferenceOf, IsEncoderState, EncodedFits, EncodesPlanes}
+use Rattle.vc_defs.specs.Decoder.{reference_planes}
+use Rattle.vc_defs.specs.Encoder.{Encoded, encoded_picture, written_planes, body_of, is_key_due, next_encoded, encoder_after, encoded_bytes, encode}
+use Rattle.vc_defs.specs.Laws.{AreBytes, EncodedFits, EncodesPlanes}
 use Rattle.vc_defs.proofs.Pictures.{AreSamples, IsPlaneOf, ArePlanesOf, plane_more, all_made, length-decoded_plane, decoded_small}
 use Rattle.vc_defs.proofs.RawPictures.{raw_both_ways}
 

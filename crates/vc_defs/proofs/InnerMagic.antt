@@ -1,6 +1,6 @@
 -- No magic stands inside a legal header, so a header is known before its frame is cut.
-use Rattle.std.proofs.Common.{◌≡◌, ◌≢◌, ◌∙◌, sym, ap, refl, subst, ℕ, suc, zero, ◌+◌, ◌-◌, ◌*◌, ◌/◌, ◌%◌, ◌<◌, ◌≤◌, inl, inr, List, [], ◌∷◌, ◌++◌, length, take, drop, get_or, arith}
-use Rattle.std.specs.Prelude.{Bool, true, false, nat_eq, cond}
+use Rattle.std.proofs.Common.{◌≡◌, ◌≢◌, ◌∙◌, sym, ap, refl, subst, ℕ, suc, zero, ◌+◌, ◌-◌, ◌*◌, ◌/◌, ◌%◌, ◌<◌, ◌≤◌, inl, inr, List, [], ◌∷◌, take, drop, get_or, arith}
+use Rattle.std.specs.Prelude.{Bool, true, false}
 use Rattle.std.specs.declared.option.Option.{Option}
 use Rattle.std.specs.declared.option.Option.TheVariants.{Some, None}
 use Rattle.std.proofs.lemmas.Option.{none-some}
@@ -12,7 +12,7 @@ use Rattle.vc_defs.specs.declared.Header.{Header}
 use Rattle.vc_defs.specs.Headers.{magic, flags_of, header_bytes, is_legal, header_from}
 use Rattle.vc_defs.specs.Places.{one_further, first_magic}
 use Rattle.vc_defs.proofs.Parsing.{chosen, some_same}
-use Rattle.vc_defs.proofs.HeaderBack.{Kept, kept, one, one_small, chroma, full, chroma_small, full_small, number_of, number_small, flags_number, Bits, bits_of, flags_are, made, remade, remade_is, flags_of_remade, bytes_at, headers_read}
+use Rattle.vc_defs.proofs.HeaderBack.{kept, one, one_small, chroma, full, chroma_small, full_small, number_of, number_small, flags_number, Bits, bits_of, flags_are, made, remade, remade_is, flags_of_remade, bytes_at, headers_read}
 use Rattle.vc_defs.proofs.Looking.{is_magic}
 
 -- some bytes of a legal header: none of them stands in the magic at its place

@@ -7,17 +7,17 @@ use Rattle.std.specs.declared.option.Option.TheVariants.{Some, None}
 use Rattle.std.proofs.lemmas.Option.{none-some}
 use Rattle.std.proofs.lemmas.Bool.{cond-false}
 use Rattle.std.proofs.lemmas.Bool.Decides.{nat_tests}
-use Rattle.std.proofs.lemmas.List.{take-append-le, drop-append-le, append-nil}
-use Rattle.std.proofs.lemmas.List.Elements.{All-nil, All-cons, All-append}
+use Rattle.std.proofs.lemmas.List.{take-append-le, drop-append-le}
+use Rattle.std.proofs.lemmas.List.Elements.{All-nil, All-cons}
 use Rattle.vc_defs.specs.declared.Header.{Header}
 use Rattle.vc_defs.specs.Headers.{header_from}
-use Rattle.vc_defs.specs.Places.{first_magic, Look, nothing, begun, no_header, unended, cut, whole, look_behind, look_at_header, look_at, look_from, look, cursor_after, Frame, OpenFrame, Places, joined, frames_at, left_at, places_at, places_from, places}
-use Rattle.vc_defs.specs.Finds.{Find, Head, Ended, known_at, finds_unfinished, finds_in, finds}
+use Rattle.vc_defs.specs.Places.{first_magic, Look, nothing, begun, no_header, unended, cut, whole, look_behind, look_at_header, look_at, look_from, look, cursor_after, Frame, OpenFrame, Places, joined, frames_at, places_at, places_from, places}
+use Rattle.vc_defs.specs.Finds.{Find, Head, Ended, known_at, finds_in, finds}
 use Rattle.vc_defs.specs.Laws.{FindsStay}
 use Rattle.vc_defs.proofs.Parsing.{some_same}
 use Rattle.vc_defs.proofs.Pictures.{all_weaker}
 use Rattle.vc_defs.proofs.Looking.{magic_inside, magic_stays, magic_beyond, look_stays}
-use Rattle.vc_defs.proofs.Continuing.{Moves, look_moves, at_known, many_turns}
+use Rattle.vc_defs.proofs.Continuing.{Moves, look_moves, at_known}
 use Rattle.vc_defs.proofs.InnerMagic.{inner_magic}
 
 -- what a look has seen

@@ -1,6 +1,6 @@
 -- The planes that a legal body gives are a picture.
-use Rattle.std.proofs.Common.{◌≡◌, ◌∙◌, sym, ap, refl, subst, ℕ, suc, zero, ◌+◌, ◌*◌, ◌/◌, ◌%◌, ◌<◌, ◌≤◌, inl, inr, List, [], ◌∷◌, length, take, drop, get_or, map, arith}
-use Rattle.std.specs.Prelude.{ℤ, pos, negsuc, ◌+ℤ◌, min, Bool, true, false, ◌&&◌, not, nat_le, nat_lt}
+use Rattle.std.proofs.Common.{◌≡◌, ◌∙◌, sym, ap, refl, subst, ℕ, suc, zero, ◌+◌, ◌*◌, ◌/◌, ◌%◌, ◌<◌, inl, inr, List, [], ◌∷◌, length, take, drop, get_or, map, arith}
+use Rattle.std.specs.Prelude.{ℤ, pos, negsuc, ◌+ℤ◌, Bool, true, false, ◌&&◌, not, nat_le, nat_lt}
 use Rattle.std.specs.List.{range_with_len, list_all, All}
 use Rattle.std.specs.Int.{int_shr}
 use Rattle.std.specs.declared.option.Option.{Option}
@@ -9,11 +9,10 @@ use Rattle.std.proofs.lemmas.Option.{none-some}
 use Rattle.std.proofs.lemmas.Bool.{and_parts}
 use Rattle.std.proofs.lemmas.List.FromFn.{length-map-range_with_len}
 use Rattle.std.proofs.lemmas.List.Elements.{All-head, All-tail, All-nil, All-cons}
-use Rattle.vc_defs.specs.declared.Header.{Header}
 use Rattle.vc_defs.specs.Walsh.{transformed}
 use Rattle.vc_defs.specs.Quantiser.{dequantised}
 use Rattle.vc_defs.specs.Planes.{Block, padded, blocks_across, block_count, block_of, plane_of, clamped, base_of, samples_of, decoded_blocks, decoded_plane, unpadded, blocks_from}
-use Rattle.vc_defs.specs.Bodies.{IsPicture, plane_shapes, plane_from, planes_from, decoded_from, body_planes}
+use Rattle.vc_defs.specs.Bodies.{plane_shapes, plane_from, planes_from, decoded_from, body_planes}
 use Rattle.vc_defs.specs.Laws.{DecodedIsPicture}
 use Rattle.vc_defs.proofs.Parsing.{chosen, some_same}
 use Rattle.vc_defs.proofs.ParsingBodies.{all_below, complete_says, went}

@@ -1,16 +1,14 @@
 -- A picture's bytes in a raw format are those of its planes, both ways.
 use Rattle.std.proofs.Common.{◌≡◌, ◌∙◌, sym, ap, refl, subst, ℕ, ◌+◌, ◌*◌, ◌/◌, ◌%◌, ◌-◌, ◌<◌, inl, inr, List, [], ◌∷◌, ◌++◌, length, take, drop, get_or, map, arith, length-append, length-drop}
-use Rattle.std.specs.Prelude.{◌⊎◌, Bool, true, false, ◌&&◌, nat_eq, cond}
-use Rattle.std.specs.List.{range_with_len, flat_map, All}
+use Rattle.std.specs.Prelude.{◌⊎◌, true, ◌&&◌, nat_eq, cond}
+use Rattle.std.specs.List.{range_with_len, flat_map}
 use Rattle.std.proofs.lemmas.Bool.{and_parts, cond-true, cond-false, cases_eq}
 use Rattle.std.proofs.lemmas.Bool.Decides.{nat_tests}
-use Rattle.std.proofs.lemmas.List.{ext_get_or, take_at, drop_at, take_all, append-nil, take-append-drop, get_or-append_right, get_or-drop}
+use Rattle.std.proofs.lemmas.List.{ext_get_or, take_at, drop_at, take-append-drop, get_or-append_right, get_or-drop}
 use Rattle.std.proofs.lemmas.List.FromFn.{length-map-range_with_len, get_or-map-range_with_len}
 use Rattle.vc_base.specs.declared.Fourcc.{Fourcc}
-use Rattle.vc_defs.specs.declared.Layout.{Layout}
-use Rattle.vc_defs.specs.declared.Geometry.{Geometry}
-use Rattle.vc_defs.specs.Headers.{is_legal_geometry, is_legal_size, size_suits, is_even}
-use Rattle.vc_defs.specs.Bodies.{IsPicture, plane_shapes}
+use Rattle.vc_defs.specs.Headers.{is_legal_geometry, is_legal_size, is_even}
+use Rattle.vc_defs.specs.Bodies.{plane_shapes}
 use Rattle.vc_defs.specs.Raw.{grey, yu12, nv12, yuyv, layout_of, raw_size, raw_of, planes_of, cut_into, strided, in_turns, packed_sample, sample_at}
 use Rattle.vc_defs.specs.Laws.{IsRawShape, RawBothWays, RawHasItsSize}
 
@@ -22,13 +20,13 @@ table_long : (f : ℕ → ℕ) (n : ℕ) → length (map f (range_with_len 0 n))
 table_long f n = length-map-range_with_len f 0 n
 
 parity : (k : ℕ) → (k % 2 ≡ 0) ⊎ (k % 2 ≡ 1)
-parity k = elim (cases_eq (k % 2) 0) [ | inl e ↦ inl e | inr ne ↦ inr (omega arith) ]
+parity k = elim (cases_eq (k % 2) 0) [ inl e ↦ inl e | inr ne ↦ inr (omega arith) ]
 
 quarter : (k : ℕ) → (k % 2 ≡ 0) ⊎ ((k % 4 ≡ 1) ⊎ (k % 4 ≡ 3))
 quarter k =
     elim (parity k) [
       | inl e ↦ inl e
-      | inr e ↦ elim (cases_eq (k % 4) 1) [ | inl f ↦ inr (inl f) | inr ne ↦ inr (inr (omega arith)) ]
+      | inr e ↦ elim (cases_eq (k % 4) 1) [ inl f ↦ inr (inl f) | inr ne ↦ inr (inr (omega arith)) ]
     ]
 
 -- the three kinds of bytes of a picture in which Y, U, Y and V come in turns

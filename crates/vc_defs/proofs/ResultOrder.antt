@@ -1,29 +1,28 @@
 -- In which order results are known, and that they stay when the bytes go on.
 use Rattle.std.proofs.Common.{◌≡◌, ◌∙◌, sym, ap, refl, subst, ℕ, suc, zero, ◌+◌, ◌-◌, ◌*◌, ◌/◌, ◌<◌, ◌≤◌, inl, inr, List, [], ◌∷◌, ◌++◌, length, take, drop, get_or, map, arith, append_assoc}
-use Rattle.std.specs.Prelude.{◌⊎◌, Bool, true, false, ◌&&◌, ◌||◌, not, nat_le, nat_lt, cond}
+use Rattle.std.specs.Prelude.{Bool, true, false, ◌&&◌, ◌||◌, not, nat_le, nat_lt, cond}
 use Rattle.std.specs.List.{list_all, All}
 use Rattle.std.specs.declared.option.Option.{Option}
 use Rattle.std.specs.declared.option.Option.TheVariants.{Some, None}
 use Rattle.std.proofs.Math.Nat.{mul-le-mul}
-use Rattle.std.proofs.lemmas.Bool.{and_parts, cond-false, cases_lt}
+use Rattle.std.proofs.lemmas.Bool.{and_parts, cases_lt}
 use Rattle.std.proofs.lemmas.Bool.Decides.{nat_tests}
 use Rattle.std.proofs.lemmas.List.Elements.{All-nil, All-cons, All-head, All-tail, All-append}
 use Rattle.vc_defs.specs.declared.Layout.{Layout}
 use Rattle.vc_defs.specs.declared.Layout.TheVariants.{Grey, C420, C422}
-use Rattle.vc_defs.specs.declared.Geometry.{Geometry}
 use Rattle.vc_defs.specs.declared.Header.{Header}
-use Rattle.vc_defs.specs.Headers.{is_legal, is_legal_geometry, is_legal_size, size_suits, raw_suits, most_bytes, is_legal_number, is_whole_header, header_from}
-use Rattle.vc_defs.specs.Planes.{padded, block_count, blocks_across, blocks_from, decoded_plane, unpadded}
-use Rattle.vc_defs.specs.Bodies.{shapes_of, plane_shapes, plane_from, planes_from, decoded_from, after_plane, if_complete, body_planes}
-use Rattle.vc_defs.specs.Places.{Look, nothing, begun, no_header, unended, cut, whole, look, cursor_after, Frame, OpenFrame, Places, joined, frames_at, places_at, places_from, places}
+use Rattle.vc_defs.specs.Headers.{is_legal, is_legal_geometry, is_legal_size, size_suits, raw_suits, most_bytes, is_legal_number, is_whole_header}
+use Rattle.vc_defs.specs.Planes.{padded, block_count, blocks_across, blocks_from, unpadded}
+use Rattle.vc_defs.specs.Bodies.{shapes_of, plane_from, planes_from, decoded_from, after_plane, if_complete, body_planes}
+use Rattle.vc_defs.specs.Places.{Look, nothing, begun, no_header, unended, cut, whole, look, Frame, OpenFrame, places_at, places_from, places}
 use Rattle.vc_defs.specs.Finds.{Find, Head, Ended, known_at, finds}
-use Rattle.vc_defs.specs.Decoder.{FrameResult, ResultKind, Picture, Damaged, Changed, GivenResult, BetweenFrames, ReferenceState, is_passed_over, is_change, is_present, follows_reference, reference_planes, frame_planes, picture_planes, present_after_header, given_at_header, given_by, given_at_end, given_then, given_in_frames, given_by_find, given_by_finds, present_after, given_in, results}
-use Rattle.vc_defs.specs.Laws.{IsKnownRight, IsNoChange, IsNext, IsNextIfAny, AreOrdered, ResultsAreOrdered, ResultsAreInside, ResultsStay}
+use Rattle.vc_defs.specs.Decoder.{FrameResult, Changed, GivenResult, BetweenFrames, is_passed_over, is_change, is_present, follows_reference, reference_planes, frame_planes, picture_planes, present_after_header, given_at_header, given_by, given_at_end, given_then, given_in_frames, given_by_find, given_by_finds, present_after, given_in, results}
+use Rattle.vc_defs.specs.Laws.{IsNext, AreOrdered, ResultsAreOrdered, ResultsAreInside, ResultsStay}
 use Rattle.vc_defs.proofs.Pictures.{all_weaker}
 use Rattle.vc_defs.proofs.HeaderBack.{headers_read}
 use Rattle.vc_defs.proofs.Following.{present_append}
 use Rattle.vc_defs.proofs.ByFinds.{results_are_of_finds}
-use Rattle.vc_defs.proofs.Ordering.{Seen, seen, InOrder, in_order, AllAfter, finds_of, finds_inside, finds_stay}
+use Rattle.vc_defs.proofs.Ordering.{Seen, seen, InOrder, in_order, finds_of, finds_inside, finds_stay}
 
 -- sizes of a legal header's picture
 least_sizes : (limit : ℕ) (h : Header) → is_legal limit h ≡ true → (16 ≤ h.geometry.width) × (16 ≤ h.geometry.height)
@@ -98,7 +97,7 @@ frames_are (suc t) limit c bytes = by_look (look limit bytes) (seen limit bytes)
 -- a frame that is known with its header gives no picture
 no_picture : (limit : ℕ) (f : Frame) (now : BetweenFrames) → IsFrame limit f → f.known ≡ f.position + 44 → picture_planes f now ≡ None
 no_picture limit f now is e =
-    ap (λ b. elim b as (λ _. Option (List (List ℕ))) [ | None ↦ None | Some body ↦ cond (f.header.key || is_present now.geometry f.header.geometry) (frame_planes f.header now.reference body) None ]) (is.1 e)
+    ap (λ b. elim b as (λ _. Option (List (List ℕ))) [ None ↦ None | Some body ↦ cond (f.header.key || is_present now.geometry f.header.geometry) (frame_planes f.header now.reference body) None ]) (is.1 e)
     ∙ by_test (f.header.key || is_present now.geometry f.header.geometry) (f.header.key || follows_reference f.header now.reference)
   where
     by_test : (b b' : Bool) → cond b (cond b' (body_planes f.header (reference_planes now.reference) []) None) None ≡ None
@@ -124,9 +123,9 @@ end_ordered f now (Some planes) (r ∷ later) known after ordered = (known, afte
 -- a change in front of the other result of its frame
 change_next : (limit : ℕ) (f : Frame) (now : BetweenFrames) (o : Option (List (List ℕ))) → IsFrame limit f → picture_planes f now ≡ o → f.position + 44 ≤ f.known → IsNext (Changed f.header.geometry) f.position (f.position + 44) (given_by f now o).result
 change_next limit f now None is e known =
-    (refl, tt, elim (cases_lt (f.position + 44) f.known) [ | inl h ↦ inl h | inr h ↦ inr (omega arith, refl) ])
+    (refl, tt, elim (cases_lt (f.position + 44) f.known) [ inl h ↦ inl h | inr h ↦ inr (omega arith, refl) ])
 change_next limit f now (Some planes) is e known =
-    (refl, tt, elim (cases_lt (f.position + 44) f.known) [ | inl h ↦ inl h | inr h ↦ let clash : None ≡ Some planes = sym (no_picture limit f now is (omega arith)) ∙ e in absurd cc ])
+    (refl, tt, elim (cases_lt (f.position + 44) f.known) [ inl h ↦ inl h | inr h ↦ let clash : None ≡ Some planes = sym (no_picture limit f now is (omega arith)) ∙ e in absurd cc ])
 
 abbrev Ordered : ℕ → List FrameResult → Type 0
 Ordered m rs = ((n : ℕ) → n < m + 36 → IsAfter n rs) × AreOrdered rs

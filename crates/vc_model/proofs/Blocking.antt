@@ -1,10 +1,9 @@
 -- A call that answers Blocked changes nothing.
-use Rattle.std.proofs.Common.{ℕ, ◌≡◌, ◌+◌, ◌==◌, eqb, ltb, Bool, true, false, not, cond, ◌||◌, is_none, is_some, Option, Some, None, List, [], ◌∷◌, ◌++◌, set, length, refl, sym, ap, ◌∙◌, subst, arith}
-use Rattle.std.specs.List.{filter, list_any}
+use Rattle.std.proofs.Common.{ℕ, ◌≡◌, ◌+◌, ◌==◌, eqb, Bool, true, false, not, cond, ◌||◌, is_none, is_some, Option, Some, None, List, [], ◌∷◌, ◌++◌, length, refl, sym, ap, ◌∙◌, subst, arith}
+use Rattle.std.specs.List.{filter}
 use Rattle.std.proofs.lemmas.List.{set-get_or}
 use Rattle.std.proofs.lemmas.Bool.{false≢true}
 use Rattle.vc_base.specs.declared.Side.{Side}
-use Rattle.vc_base.specs.declared.Kind.{Kind}
 use Rattle.vc_base.specs.declared.Fourcc.{Fourcc}
 use Rattle.vc_base.specs.declared.Errno.{Errno}
 use Rattle.vc_base.specs.declared.Errno.TheVariants.{NoEnt, Again, NoMem, Busy, Inval, NoTty, Pipe}
@@ -13,21 +12,19 @@ use Rattle.vc_base.specs.declared.Call.TheVariants.{Open, Close, EnumFmt, GetFmt
 use Rattle.vc_base.specs.declared.Reply.{Reply}
 use Rattle.vc_base.specs.declared.Reply.TheVariants.{Done, Fmt, Count, Created, Blocked}
 use Rattle.vc_base.specs.declared.Side.TheVariants.{Cap}
-use Rattle.vc_base.specs.Buffers.{Buffer, QueueState, is_empty, buffer_count, refuse_if, most_buffers, reqbufs_refusal, reqbufs_after, create_refusal, create_after, created, querybuf_reply, qbuf_refusal, qbuf_after, dqbuf_refusal, long_enough, streamon_refusal, streamon_after}
+use Rattle.vc_base.specs.Buffers.{Buffer, is_empty, buffer_count, refuse_if, most_buffers, reqbufs_refusal, reqbufs_after, create_refusal, create_after, created, querybuf_reply, qbuf_refusal, qbuf_after, dqbuf_refusal, long_enough, streamon_refusal, streamon_after}
 use Rattle.std.specs.Prelude.{slice_get, min}
 use Rattle.vc_model.specs.Formats.{formats_listed, formats_for}
 use Rattle.vc_base.specs.Events.{Event, event_reply, event_refusal, subscribe_after, unsubscribe_after, take_event_after}
-use Rattle.vc_base.specs.Device.{DeviceEvent, call}
 use Rattle.vc_defs.specs.Encoder.{RunRates}
-use Rattle.vc_model.specs.Coder.{Coder}
 use Rattle.vc_model.specs.Context.{Context, Slot, run, queue_of, with_queue, format_of, sizeimage, is_dec, is_enc}
 use Rattle.vc_model.specs.Answer.{set_refusal, after_new_format, after_new_buffers, is_part_of_picture, is_ended, streamoff_effect, control_of, with_control, Answer, unchanged, refused, answered, unless, if_found, unless_or_block, desc_answer, query_answer, taken_answer, both_stream, is_stopped_by_drain, stop_answer, start_is_early, start_answer, command_answer, value_answer, control_answer, context_answer, closed_answer, answer}
 use Rattle.vc_model.specs.Runs.{is_claimable}
 use Rattle.vc_model.specs.Solo.{Answered}
-use Rattle.vc_model.specs.Devices.{DeviceState, Told, Empty, new_device, slot_of, waiting_after, with_slot, steps_of, counted, ignored, call_answered, device_after}
-use Rattle.vc_model.specs.JobList.{waits, ListIsExact}
-use Rattle.vc_model.specs.Standing.{CoreState, core_slot, core_of, Stands}
-use Rattle.vc_model.specs.Core.{core_call, BlockedChangesNothing}
+use Rattle.vc_model.specs.Devices.{Told, new_device, slot_of, waiting_after, with_slot, steps_of, counted, ignored, call_answered, device_after}
+use Rattle.vc_model.specs.JobList.{waits}
+use Rattle.vc_model.specs.Standing.{CoreState}
+use Rattle.vc_model.specs.Core.{BlockedChangesNothing}
 use Rattle.vc_model.proofs.Listing.{exact_list}
 use Rattle.vc_model.proofs.Hiding.{claimable_without_job}
 use Rattle.vc_model.proofs.Standing.{core_slot_at}

@@ -1,15 +1,13 @@
 -- What a core keeps of a sound context is sound.
-use Rattle.std.proofs.Common.{ℕ, ◌≡◌, ◌≤◌, ◌<◌, ◌+◌, eqb, nat_le, ltb, Bool, true, false, cond, ◌&&◌, is_none, Option, Some, None, List, [], ◌∷◌, ◌++◌, map, length, get_or, refl, sym, ap, ◌∙◌, subst, arith}
+use Rattle.std.proofs.Common.{ℕ, ◌≡◌, ◌≤◌, ◌<◌, ◌+◌, eqb, nat_le, ltb, Bool, true, false, cond, ◌&&◌, Option, Some, None, List, [], ◌∷◌, ◌++◌, map, refl, sym, ap, ◌∙◌, subst, arith}
 use Rattle.std.specs.List.{list_all}
 use Rattle.std.proofs.lemmas.List.{length-map}
-use Rattle.vc_base.specs.Buffers.{Buffer, QueueState, buffers, buffer_count, most_buffers, without_bytes, without_job_bytes}
+use Rattle.vc_base.specs.Buffers.{Buffer, QueueState, buffers, most_buffers, without_bytes, without_job_bytes}
 use Rattle.vc_base.specs.declared.Side.TheVariants.{Cap}
-use Rattle.vc_base.specs.Device.{DeviceEvent}
-use Rattle.vc_model.specs.Coder.{Coder}
-use Rattle.vc_model.specs.Context.{Context, Slot, Running, is_run, is_drained, sizeimage}
-use Rattle.vc_model.specs.Devices.{DeviceState, new_device, slot_of, device_after, projection}
-use Rattle.vc_model.specs.Sound.{count_index, OnceEach, CountsUp, IsSoundQueue, HasItsBuffers, dest_count, AreLong, AreShort, IsFit, IsSound, IsSoundSlot, drain_not_noted}
-use Rattle.vc_model.specs.Standing.{CoreState, some_job, without_data, without_data_of, without_job, core_slot, core_of, Stands}
+use Rattle.vc_model.specs.Context.{Context, Slot, Running, is_run, sizeimage}
+use Rattle.vc_model.specs.Devices.{new_device, slot_of, device_after, projection}
+use Rattle.vc_model.specs.Sound.{count_index, CountsUp, IsSoundQueue, HasItsBuffers, AreLong, AreShort, IsSound, IsSoundSlot}
+use Rattle.vc_model.specs.Standing.{some_job, without_data, without_data_of, core_slot}
 use Rattle.vc_model.specs.CoreSound.{HasJobs, IsSoundInCore, IsSoundCoreSlot, CoresAreSound}
 use Rattle.vc_model.proofs.Queues.{count_parts}
 use Rattle.vc_model.proofs.Isolating.{isolated}

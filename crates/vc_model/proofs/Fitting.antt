@@ -1,8 +1,8 @@
 -- Formats and sizes fit in every context, and a running job is one of its context.
-use Rattle.std.proofs.Common.{ℕ, zero, suc, ◌≡◌, ◌≤◌, ◌<◌, ◌+◌, ◌==◌, eqb, nat_lt, nat_le, Bool, true, false, not, cond, ◌&&◌, ◌||◌, is_none, is_some, Option, Some, None, List, [], ◌∷◌, ◌++◌, length, refl, sym, ap, ◌∙◌, subst, arith}
+use Rattle.std.proofs.Common.{ℕ, ◌≡◌, ◌≤◌, ◌+◌, ◌==◌, nat_lt, nat_le, Bool, true, false, not, cond, ◌&&◌, ◌||◌, is_none, is_some, Option, Some, None, List, [], ◌∷◌, ◌++◌, length, refl, sym, ap, ◌∙◌, subst, arith}
 use Rattle.std.specs.List.{list_all}
-use Rattle.std.proofs.lemmas.Bool.{ltb-false, le-leb, le-ltb, false≢true, or_parts}
-use Rattle.std.proofs.lemmas.List.Folds.{list_all-append, list_any-append}
+use Rattle.std.proofs.lemmas.Bool.{ltb-false, le-leb, false≢true, or_parts}
+use Rattle.std.proofs.lemmas.List.Folds.{list_all-append}
 use Rattle.vc_base.specs.declared.Stamp.{Stamp}
 use Rattle.vc_base.specs.declared.Side.{Side}
 use Rattle.vc_base.specs.declared.Side.TheVariants.{Out, Cap}
@@ -21,12 +21,10 @@ use Rattle.vc_base.specs.Events.{EventState}
 use Rattle.vc_model.specs.Formats.{FormatPair}
 use Rattle.vc_model.specs.Coder.{CodecState, reset}
 use Rattle.vc_defs.specs.Encoder.{RunRates}
-use Rattle.vc_model.specs.Context.{Context, Slot, Running, Cause, drain, change, PhaseState, run, owe, last, stopped, fresh_context, codec_at_open, queue_of, with_queue, is_run, sizeimage, is_dec, is_enc, is_drained, has_before}
-use Rattle.vc_model.specs.Answer.{Answer, unchanged, refused, answered, unless, if_found, unless_or_block, desc_answer, set_refusal, set_answer, after_new_format, reqbufs_answer, after_new_buffers, create_answer, query_answer, qbuf_answer, is_part_of_picture, taken_answer, dqbuf_answer, after_taking, stop_at_last, is_ended, streamon_answer, streamoff_answer, streamoff_effect, without_drain_stop, after_output_off, mark_after_restart, after_capture_off, both_stream, is_stopped_by_drain, stop_answer, start_is_early, start_answer, command_answer, value_answer, control_answer, context_answer, closed_answer, answer}
-use Rattle.vc_model.specs.Sound.{IsSoundQueue, HasItsBuffers, HasCodec, ends_with_last, is_last, stops_by_change, AreLong, is_at_end, MarkIsQueued, IsSoundButUnsettled, IsOrdered, IsOrderedSlot}
-use Rattle.vc_model.proofs.Tests.{and_left, not_true, not_false}
-use Rattle.vc_model.proofs.Queues.{no_longer, new_sound, reqbufs_sound, create_sound, queue_sound, queued_ordinal, queued_size, take_sound, streamon_sound, streamoff_sound}
-use Rattle.vc_model.proofs.Firm.{run_no_change, idle, without_job, no_job_there, events_firm, rates_firm, formats_firm, out_firm, cap_firm, settle_sound, codec_reset}
+use Rattle.vc_model.specs.Context.{Context, Slot, Running, Cause, drain, change, PhaseState, run, owe, last, stopped, fresh_context, queue_of, with_queue, is_run, sizeimage, is_dec, is_enc, is_drained}
+use Rattle.vc_model.specs.Answer.{Answer, unchanged, refused, answered, unless, if_found, unless_or_block, desc_answer, set_refusal, set_answer, after_new_format, reqbufs_answer, after_new_buffers, create_answer, query_answer, qbuf_answer, is_part_of_picture, taken_answer, stop_at_last, is_ended, streamon_answer, streamoff_effect, without_drain_stop, after_output_off, mark_after_restart, after_capture_off, both_stream, is_stopped_by_drain, stop_answer, start_is_early, start_answer, command_answer, value_answer, control_answer, context_answer, closed_answer, answer}
+use Rattle.vc_model.specs.Sound.{HasItsBuffers, stops_by_change, IsSoundButUnsettled, IsOrderedSlot}
+use Rattle.vc_model.proofs.Tests.{and_left}
 use Rattle.std.specs.Prelude.{min, slice_get}
 use Rattle.std.specs.List.{list_any}
 use Rattle.std.proofs.Common.{map, length-append}
@@ -45,7 +43,7 @@ use Rattle.vc_model.specs.Context.{RunSort, copy, encode, decode, probe, format_
 use Rattle.vc_model.specs.Answer.{control_of, with_control}
 use Rattle.vc_model.specs.Runs.{is_claimable, sort_of, cap_after_claim, running_of, claim_front, after_claim, source_of, JobData, job_data, RunResult, copied, encoded, decoded, run_result, source_done, source_back, source_moved, dest_done, dest_back, decoded_effect, run_effect, fault_effect, type_flag, after_finish}
 use Rattle.vc_model.specs.Solo.{SoloEvent, Called, Claims, Finishes, solo_step, solo_slot, claim_step, solo_finish, finish_step}
-use Rattle.vc_model.specs.Sound.{dest_count, IsOrderedSlot, HasFormats, HasGeometry, has_dest, IsRunOf, HasRun, AreShort, IsFit, IsSoundSlot}
+use Rattle.vc_model.specs.Sound.{dest_count, IsOrderedSlot, HasFormats, HasGeometry, has_dest, HasRun, AreShort, IsFit, IsSoundSlot}
 use Rattle.vc_model.specs.Soundness.{Soundness}
 use Rattle.vc_model.proofs.Tests.{and_right, and_both}
 use Rattle.vc_model.proofs.Queues.{find_index, length_without, length_new, length_back}

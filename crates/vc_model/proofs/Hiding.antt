@@ -1,5 +1,5 @@
 -- No call looks at the data of the running job.
-use Rattle.std.proofs.Common.{ℕ, ◌≡◌, ◌+◌, ◌==◌, eqb, nat_lt, nat_le, Bool, true, false, not, cond, ◌&&◌, ◌||◌, is_none, is_some, Option, Some, None, List, [], ◌∷◌, ◌++◌, map, length, refl, sym, ap, ◌∙◌, subst, arith}
+use Rattle.std.proofs.Common.{ℕ, ◌≡◌, ◌==◌, eqb, nat_lt, nat_le, Bool, true, false, not, cond, ◌&&◌, ◌||◌, is_none, is_some, Option, Some, None, List, [], ◌∷◌, ◌++◌, map, length, refl, sym, ap, ◌∙◌, subst, arith}
 use Rattle.std.specs.Prelude.{option_map, bit_or, min, ◌-◌}
 use Rattle.std.specs.List.{find, list_any, list_all}
 use Rattle.std.proofs.lemmas.List.{length-map}
@@ -17,15 +17,15 @@ use Rattle.vc_base.specs.declared.Errno.TheVariants.{NoEnt, Again, NoMem, Busy, 
 use Rattle.vc_base.specs.declared.Call.{Call}
 use Rattle.vc_base.specs.declared.Call.TheVariants.{Open, Close, EnumFmt, GetFmt, TryFmt, SetFmt, ReqBufs, CreateBufs, QueryBuf, QBuf, DqBuf, StreamOn, StreamOff, Subscribe, Unsubscribe, DqEvent, DecCmd, EncCmd, GetCtrl, SetCtrl, Poll}
 use Rattle.vc_base.specs.declared.Reply.{Reply}
-use Rattle.vc_base.specs.declared.Reply.TheVariants.{Done, Fmt, Count, Created, Refused, Blocked}
-use Rattle.vc_base.specs.Buffers.{Buffer, QueueState, buffers, buffer_count, is_empty, is_out, with_index, info, info_of, held_refusal, refuse_if, queued_flag, done_flag, most_buffers, querybuf_reply, create_refusal, create_after, created, queue_held, qbuf_after, take_front, new_buffers, longest_buffer, taken, dqbuf_after, dqbuf_refusal, reqbufs_after, reqbufs_refusal, streamon_refusal, streamon_after, streamoff_after, long_enough, lend_front, retire_after, last_flag, zero_stamp, without_bytes, without_job_bytes}
-use Rattle.vc_model.specs.Formats.{FormatPair, formats_for, formats_listed}
+use Rattle.vc_base.specs.declared.Reply.TheVariants.{Done, Fmt, Count, Created, Blocked}
+use Rattle.vc_base.specs.Buffers.{Buffer, QueueState, buffer_count, is_empty, is_out, with_index, info, info_of, held_refusal, refuse_if, queued_flag, done_flag, most_buffers, querybuf_reply, create_refusal, create_after, created, queue_held, qbuf_after, take_front, new_buffers, longest_buffer, taken, dqbuf_after, dqbuf_refusal, reqbufs_after, reqbufs_refusal, streamon_refusal, streamon_after, long_enough, lend_front, retire_after, last_flag, zero_stamp, without_bytes, without_job_bytes}
+use Rattle.vc_model.specs.Formats.{formats_for}
 use Rattle.vc_defs.specs.Encoder.{RunRates}
-use Rattle.vc_model.specs.Context.{Context, Slot, Running, Cause, drain, change, PhaseState, run, owe, last, stopped, queue_of, with_queue, format_of, is_dec, is_enc, is_run, is_drained, sizeimage, raise_end, settle, settle_drain, settle_last, give_last}
-use Rattle.vc_model.specs.Answer.{Answer, unchanged, refused, answered, unless, if_found, unless_running, unless_or_block, desc_answer, set_answer, set_refusal, after_new_format, reqbufs_answer, after_new_buffers, create_answer, query_answer, qbuf_answer, is_part_of_picture, taken_answer, after_taking, stop_at_last, is_ended, dqbuf_answer, streamon_answer, streamoff_answer, streamoff_effect, without_drain_stop, both_stream, is_stopped_by_drain, stop_answer, start_is_early, start_answer, command_answer, value_answer, control_of, with_control, control_answer, readiness, context_answer, closed_answer, answer}
+use Rattle.vc_model.specs.Context.{Context, Slot, Running, Cause, drain, change, PhaseState, run, owe, last, stopped, queue_of, format_of, is_dec, is_enc, is_run, is_drained, sizeimage, raise_end, settle, settle_drain, settle_last, give_last}
+use Rattle.vc_model.specs.Answer.{Answer, unchanged, refused, answered, unless, if_found, unless_running, unless_or_block, desc_answer, set_answer, set_refusal, after_new_format, reqbufs_answer, after_new_buffers, create_answer, query_answer, qbuf_answer, is_part_of_picture, taken_answer, after_taking, stop_at_last, is_ended, dqbuf_answer, streamon_answer, streamoff_effect, both_stream, is_stopped_by_drain, stop_answer, start_is_early, start_answer, command_answer, value_answer, control_answer, context_answer, closed_answer, answer}
 use Rattle.vc_base.specs.Events.{EventState, subscribe_after, unsubscribe_after, take_event_after, event_refusal, event_reply}
 use Rattle.vc_model.specs.Runs.{is_claimable, ready_for_probe, ready_for_run}
-use Rattle.vc_model.specs.Standing.{some_job, without_data, without_data_of, without_job, core_slot, core_answer, AnswersWithoutJob, ClaimableWithoutJob}
+use Rattle.vc_model.specs.Standing.{without_data, without_data_of, without_job, core_slot, core_answer, AnswersWithoutJob, ClaimableWithoutJob}
 use Rattle.vc_model.proofs.Lasting.{Lasts, answer_lasts}
 
 -- the answer with the context without the data

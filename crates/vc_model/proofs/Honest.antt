@@ -1,7 +1,7 @@
 -- In a script the bytes that are queued are as many as each call says.
-use Rattle.std.proofs.Common.{ℕ, ◌≡◌, ◌==◌, eqb, ltb, Bool, true, false, cond, is_none, Option, Some, None, List, [], ◌∷◌, ◌++◌, length, drop, refl, sym, ap, ◌∙◌, subst}
+use Rattle.std.proofs.Common.{ℕ, ◌≡◌, eqb, Bool, true, false, cond, is_none, List, [], ◌∷◌, ◌++◌, length, drop, refl, subst}
 use Rattle.std.proofs.lemmas.Bool.{eq-eqb}
-use Rattle.vc_base.specs.declared.Side.TheVariants.{Out, Cap}
+use Rattle.vc_base.specs.declared.Side.TheVariants.{Out}
 use Rattle.vc_base.specs.declared.Call.{Call}
 use Rattle.vc_base.specs.declared.Call.TheVariants.{QBuf}
 use Rattle.vc_base.specs.declared.Reply.{Reply}
@@ -9,12 +9,11 @@ use Rattle.vc_base.specs.declared.Reply.TheVariants.{Done}
 use Rattle.vc_base.specs.Device.{DeviceEvent, call, claim, finish, shut}
 use Rattle.vc_base.specs.Buffers.{is_empty}
 use Rattle.vc_model.specs.Coder.{Coder}
-use Rattle.vc_model.specs.Solo.{SoloEvent, Called, Claims, Finishes, SoloReply, Answered, Claimed, Finished, Nothing, SoloEntry, solo_run}
-use Rattle.vc_model.specs.Devices.{DeviceState, DeviceReply, Told, NoJob, Empty, DeviceEntry, new_device, job_of, device_step, device_after, device_run, with_told, solo_events_of, entry_for, entries_of}
+use Rattle.vc_model.specs.Solo.{Called, SoloReply, Answered, Claimed, Finished, Nothing, SoloEntry}
+use Rattle.vc_model.specs.Devices.{DeviceState, DeviceReply, Told, NoJob, Empty, new_device, job_of, device_step, device_after, device_run, with_told, solo_events_of, entry_for, entries_of}
 use Rattle.vc_model.specs.Places.{is_honest, is_honest_call, AreHonest}
-use Rattle.vc_model.specs.Script.{ReplyText, Asked, AsksNothing, AsksCall, AsksClaim, AsksFinish, AsksRun, HasUsedBytes, IsAsked, AreAsked, found_in, fault_in, run_events, line_events, printed_by, script_events, events_of_script, ScriptsAreHonest}
+use Rattle.vc_model.specs.Script.{ReplyText, Asked, AsksNothing, AsksCall, AsksClaim, AsksFinish, AsksRun, HasUsedBytes, IsAsked, AreAsked, fault_in, run_events, line_events, printed_by, script_events, events_of_script, ScriptsAreHonest}
 use Rattle.vc_model.proofs.Isolating.{isolated}
-use Rattle.vc_model.proofs.Printing.{run-append, entries-append}
 
 -- an event with as many bytes as its call says
 IsFair : DeviceEvent → Type 0

@@ -1,5 +1,5 @@
 -- Every fourcc that a slot tells is known: its formats have no other.
-use Rattle.std.proofs.Common.{ℕ, ◌≡◌, ◌==◌, nat_lt, Bool, true, false, not, cond, ◌&&◌, ◌||◌, length, is_none, is_some, Option, Some, None, List, [], ◌∷◌, refl, sym, ap, ◌∙◌, subst}
+use Rattle.std.proofs.Common.{ℕ, ◌≡◌, ◌==◌, Bool, true, false, not, cond, ◌&&◌, ◌||◌, length, is_none, is_some, Option, Some, None, List, [], ◌∷◌, refl, sym, ap, ◌∙◌, subst}
 use Rattle.std.proofs.Common.{zero, suc, ◌+◌}
 use Rattle.std.specs.Prelude.{bit_or, min, slice_get}
 use Rattle.std.specs.List.{list_any, list_all}
@@ -31,12 +31,12 @@ use Rattle.vc_base.specs.declared.Errno.TheVariants.{NoEnt, Again, NoMem, Busy, 
 use Rattle.vc_base.specs.declared.Call.{Call}
 use Rattle.vc_base.specs.declared.Call.TheVariants.{Open, Close, EnumFmt, GetFmt, TryFmt, SetFmt, ReqBufs, CreateBufs, QueryBuf, QBuf, DqBuf, StreamOn, StreamOff, Subscribe, Unsubscribe, DqEvent, DecCmd, EncCmd, GetCtrl, SetCtrl, Poll}
 use Rattle.vc_base.specs.declared.Reply.{Reply}
-use Rattle.vc_base.specs.declared.Reply.TheVariants.{Done, Fmt, Count, Created, Refused, Blocked}
+use Rattle.vc_base.specs.declared.Reply.TheVariants.{Done, Fmt, Count, Created, Blocked}
 use Rattle.vc_base.specs.Buffers.{Buffer, QueueState, buffer_count, is_empty, with_index, held_refusal, refuse_if, create_refusal, create_after, created, qbuf_after, dqbuf_after, dqbuf_refusal, reqbufs_after, streamon_refusal, streamon_after, streamoff_after, long_enough}
 use Rattle.vc_model.specs.Formats.{formats_for}
 use Rattle.vc_defs.specs.Encoder.{RunRates}
-use Rattle.vc_model.specs.Context.{Context, Slot, Running, Cause, drain, change, PhaseState, run, owe, last, stopped, queue_of, with_queue, is_dec, is_enc, is_run, is_drained, sizeimage, raise_end, settle, settle_drain, settle_last, give_last}
-use Rattle.vc_model.specs.Answer.{Answer, unchanged, refused, answered, unless, if_found, unless_running, unless_or_block, desc_answer, set_answer, set_refusal, after_new_format, reqbufs_answer, after_new_buffers, create_answer, query_answer, qbuf_answer, is_part_of_picture, taken_answer, after_taking, stop_at_last, is_ended, dqbuf_answer, streamon_answer, streamoff_answer, streamoff_effect, without_drain_stop, after_output_off, mark_after_restart, after_capture_off, both_stream, is_stopped_by_drain, stop_answer, start_is_early, start_answer, command_answer, value_answer, control_answer, context_answer, answer}
+use Rattle.vc_model.specs.Context.{Context, Slot, Running, Cause, drain, change, PhaseState, run, owe, last, stopped, queue_of, with_queue, is_dec, is_enc, is_run, is_drained, sizeimage, settle, settle_drain, settle_last, give_last}
+use Rattle.vc_model.specs.Answer.{Answer, unchanged, refused, answered, unless, if_found, unless_or_block, desc_answer, set_refusal, after_new_format, after_new_buffers, query_answer, is_part_of_picture, taken_answer, after_taking, stop_at_last, is_ended, streamoff_effect, without_drain_stop, after_output_off, mark_after_restart, after_capture_off, both_stream, is_stopped_by_drain, stop_answer, start_is_early, start_answer, command_answer, value_answer, control_answer, context_answer, answer}
 
 -- the slot is closed, or its context has these formats
 Lasts : FormatPair → Slot → Type 0
@@ -307,7 +307,6 @@ row_known c (EncCmd cmd) bytes found k = kept_known c _ k (either_lasts c (is_en
 row_known c (GetCtrl id) bytes found k = kept_known c _ k (value_lasts c _)
 row_known c (SetCtrl id value) bytes found k = kept_known c _ k (control_lasts c _)
 row_known c Poll bytes found k = kept_known c _ k (same_lasts c)
-
 
 closed_known : (request : Call) (found : Bool) → KnownSlot (closed_answer request found).slot
 unfolding closed_answer KnownSlot

@@ -1,14 +1,13 @@
 -- What a script prints of each slot, and how many lines finishes print.
-use Rattle.std.proofs.Common.{ℕ, zero, suc, ◌≡◌, ◌≤◌, ◌<◌, ◌+◌, ◌^◌, ◌==◌, eqb, ltb, Bool, true, false, not, cond, ◌&&◌, ◌||◌, is_none, Option, Some, None, List, [], ◌∷◌, ◌++◌, length, get_or, set, take, drop, decimal, refl, sym, ap, ◌∙◌, subst, arith, append_assoc, length-set}
-use Rattle.std.specs.Prelude.{codes, bytes_eq, replicate}
-use Rattle.std.specs.List.{filter, flat_map, list_any}
+use Rattle.std.proofs.Common.{ℕ, suc, ◌≡◌, ◌≤◌, ◌<◌, ◌+◌, ◌^◌, ◌==◌, eqb, ltb, Bool, true, false, not, cond, ◌&&◌, ◌||◌, is_none, Option, Some, None, List, [], ◌∷◌, ◌++◌, length, get_or, take, drop, decimal, refl, sym, ap, ◌∙◌, subst, arith, append_assoc, length-set}
+use Rattle.std.specs.Prelude.{codes, bytes_eq}
+use Rattle.std.specs.List.{filter, flat_map}
 use Rattle.std.specs.Int.{IsInRange}
 use Rattle.std.proofs.Math.Seq.{take-append_seam}
 use Rattle.std.proofs.lemmas.List.{append-nil, length-replicate}
 use Rattle.std.proofs.lemmas.Grind.{flat_map-append}
 use Rattle.std.proofs.lemmas.List.Folds.{list_any-append}
-use Rattle.std.proofs.lemmas.Bool.{eqb-true, eqb-false, ltb-true, ne_eqb, eq-eqb, false≢true}
-use Rattle.std.proofs.lemmas.Bool.Decides.{not_from_Decides}
+use Rattle.std.proofs.lemmas.Bool.{eqb-true, eqb-false, ltb-true, ne_eqb, false≢true}
 use Rattle.std.proofs.lemmas.Slice.Eq.{bytes_eq-Decides}
 use Rattle.std.proofs.lemmas.Fmt.{decimal_is_IsNumeral, decimal_injective}
 use Rattle.std.proofs.lemmas.Str.Parse.{digit_at}
@@ -21,26 +20,26 @@ use Rattle.vc_model.specs.Coder.{Coder}
 use Rattle.vc_model.specs.Context.{Context, Slot, Running}
 use Rattle.vc_model.specs.Answer.{answer}
 use Rattle.vc_model.specs.Runs.{JobData, job_data, RunResult, copied, encoded, decoded, run_result, run_word, result_word, finish_word}
-use Rattle.vc_model.specs.Solo.{SoloEvent, Called, Claims, Finishes, SoloReply, Answered, Claimed, Finished, SoloEntry, solo_run, solo_slot}
+use Rattle.vc_model.specs.Solo.{Called, Claims, Finishes, Answered, Claimed, Finished, SoloEntry, solo_run, solo_slot}
 use Rattle.vc_model.specs.Devices.{DeviceState, DeviceReply, Told, NoJob, Empty, DeviceEntry, DeviceStep, new_device, slot_of, job_of, with_slot, ignored, call_answered, claim_slot, claim_first, finish_of, finish_slot, finish_job, device_step, device_after, device_run, projection, entry_for, entries_of, told_entries, all_entries}
-use Rattle.vc_model.specs.Handed.{same_bool, is_finish_by, finishes_by_fault}
-use Rattle.vc_model.specs.Script.{ReplyText, Asked, AsksNothing, AsksCall, AsksClaim, AsksFinish, AsksRun, most_slots, claim_text, finish_text, solo_text, run_text, device_text, run_events, line_events, text_without, line_text, printed_by, script_events, script_text, Prints, events_of_script, fault_in, with_first, split_lines, is_line_of, slot_lines, has_feed, begins_with, IsLineOfSlot, HasKnownFourcc, IsLineText, after_space, first_is, is_finish_line, finish_lines, SlotsPrintTheirOwn, SameEventsSameLines, FinishesArePrinted}
+use Rattle.vc_model.specs.Handed.{same_bool, finishes_by_fault}
+use Rattle.vc_model.specs.Script.{ReplyText, Asked, AsksNothing, AsksCall, AsksClaim, AsksFinish, AsksRun, most_slots, claim_text, finish_text, solo_text, run_text, device_text, line_events, text_without, line_text, printed_by, script_events, script_text, Prints, events_of_script, with_first, split_lines, is_line_of, slot_lines, has_feed, begins_with, IsLineOfSlot, HasKnownFourcc, IsLineText, after_space, first_is, is_finish_line, finish_lines, SlotsPrintTheirOwn, SameEventsSameLines, FinishesArePrinted}
 use Rattle.vc_model.proofs.Isolating.{isolated, is_there}
 use Rattle.vc_model.proofs.Knowing.{fourccs_known}
 use Rattle.vc_model.proofs.Standing.{after-append}
 
 -- Digits
 
-abbrev Digits : List ℕ → Type 0
+abbrev pub Digits : List ℕ → Type 0
 Digits [] = Unit {0}
 Digits (d ∷ ds) = (48 ≤ d) × (d ≤ 57) × Digits ds
 
-digits_from : (ds : List ℕ) → ((i : ℕ) → i < length ds → IsInRange 48 57 (get_or ds i 0)) → Digits ds
+pub digits_from : (ds : List ℕ) → ((i : ℕ) → i < length ds → IsInRange 48 57 (get_or ds i 0)) → Digits ds
 digits_from [] h = tt
 digits_from (d ∷ ds) h =
     let first = h 0 (omega arith) in (first.0, first.1, digits_from ds (λ i l. h (suc i) (omega arith)))
 
-decimal_digits : (n : ℕ) → n < 2 ^ 64 → Digits (decimal n)
+pub decimal_digits : (n : ℕ) → n < 2 ^ 64 → Digits (decimal n)
 decimal_digits n fits = digits_from (decimal n) (λ i h. digit_at (decimal n) i (decimal_is_IsNumeral n fits).0.1 h)
 
 -- the digits before the first space are told apart
@@ -83,7 +82,7 @@ first_split : (x : ℕ) (front b : List ℕ) → split_lines ((front ++ 10 ∷ [
 first_split x front b h true e = absurd (false≢true (sym e))
 first_split x front b h false e = ap (with_first x) h
 
-rest_of : (s t : Bool) → (s || t) ≡ false → t ≡ false
+pub rest_of : (s t : Bool) → (s || t) ≡ false → t ≡ false
 rest_of true t e = absurd (false≢true (sym e))
 rest_of false t e = e
 
@@ -93,24 +92,24 @@ line_first (x ∷ front) b e =
     first_split x front b (line_first front b (rest_of (eqb x 10) (has_feed front) e)) (eqb x 10) e
 
 -- A line of a slot: its number, a space and words
-record Line (j : ℕ) (text : List ℕ) : Type 0 where
+pub record Line (j : ℕ) (text : List ℕ) : Type 0 where
   pub words : List ℕ
   pub same : text ≡ decimal j ++ (32 ∷ (words ++ 10 ∷ []))
   pub one : has_feed words ≡ false
 
-no_feed_digits : (ds : List ℕ) → Digits ds → has_feed ds ≡ false
+pub no_feed_digits : (ds : List ℕ) → Digits ds → has_feed ds ≡ false
 no_feed_digits [] h = refl
 no_feed_digits (d ∷ ds) h =
     ap (λ t. t || has_feed ds) (ne_eqb d 10 (λ (z : d ≡ 10). let q = h.0 in omega arith)) ∙ no_feed_digits ds h.2
 
-line_front : (j : ℕ) (text : List ℕ) → Line j text → List ℕ
+pub line_front : (j : ℕ) (text : List ℕ) → Line j text → List ℕ
 line_front j text l = decimal j ++ (32 ∷ l.words)
 
-front_text : (j : ℕ) (text : List ℕ) (l : Line j text) → text ≡ line_front j text l ++ 10 ∷ []
+pub front_text : (j : ℕ) (text : List ℕ) (l : Line j text) → text ≡ line_front j text l ++ 10 ∷ []
 unfolding line_front
 front_text j text l = l.same ∙ sym (append_assoc (decimal j) (32 ∷ l.words) (10 ∷ []))
 
-front_feed : (j : ℕ) (text : List ℕ) (l : Line j text) → j < 2 ^ 64 → has_feed (line_front j text l) ≡ false
+pub front_feed : (j : ℕ) (text : List ℕ) (l : Line j text) → j < 2 ^ 64 → has_feed (line_front j text l) ≡ false
 unfolding line_front
 front_feed j text l h =
     list_any-append (λ b. b == 10) (decimal j) (32 ∷ l.words) ∙ (ap (λ t. t || has_feed l.words) (no_feed_digits (decimal j) (decimal_digits j h)) ∙ l.one)
@@ -228,7 +227,7 @@ run_other fourcc (copied bytes) = refl
 run_other fourcc (encoded frame) = refl
 run_other fourcc (decoded step) = outcome_other (step_outcome fourcc step)
 
-word_feed : (coder : Coder) (j : JobData) (fault : Bool) → has_feed (finish_word coder j fault) ≡ false
+pub word_feed : (coder : Coder) (j : JobData) (fault : Bool) → has_feed (finish_word coder j fault) ≡ false
 unfolding finish_word
 word_feed coder j true = refl
 word_feed coder j false = run_feed j.format.fourcc (run_result coder j)
@@ -238,10 +237,10 @@ unfolding finish_word
 word_fault coder j true = refl
 word_fault coder j false = run_other j.format.fourcc (run_result coder j)
 
-abbrev claim_line : (j : ℕ) → Line j (claim_text j)
+abbrev pub claim_line : (j : ℕ) → Line j (claim_text j)
 claim_line j = record { words = codes "claim"; same = refl; one = refl }
 
-abbrev finish_line : (j : ℕ) (word : List ℕ) → has_feed word ≡ false → Line j (finish_text j word)
+abbrev pub finish_line : (j : ℕ) (word : List ℕ) → has_feed word ≡ false → Line j (finish_text j word)
 finish_line j word e = record { words = codes "finish " ++ word; same = refl; one = e }
 
 counts_finish : (fault ended : Bool) (j : ℕ) (word : List ℕ) → has_feed word ≡ false → bytes_eq (codes "finish " ++ (word ++ 10 ∷ [])) (codes "finish fault\n") ≡ ended → j < 2 ^ 64 → Counts fault (finish_text j word) (cond (same_bool fault ended) 1 0)
@@ -269,7 +268,7 @@ printed_empty t e p =
 call_empty : (t : ReplyText) (j : ℕ) (request : Call) (bytes : List ℕ) (found : Bool) → device_text t (call j request bytes found) Empty ≡ []
 call_empty t j request bytes found = refl
 
-abbrev call_line : (j : ℕ) (text : List ℕ) → IsLineOfSlot j text → Line j text
+abbrev pub call_line : (j : ℕ) (text : List ℕ) → IsLineOfSlot j text → Line j text
 call_line j text l = record { words = l.words; same = l.same; one = l.one_line }
 
 printed_call : (t : ReplyText) (j : ℕ) (request : Call) (bytes : List ℕ) (found : Bool) (reply : Reply) (handed : List ℕ) → IsLineOfSlot j (t j request reply handed) → j < 2 ^ 64 → (texts : (i : ℕ) → t i request reply handed ≡ t i request reply handed) → Printed t (call j request bytes found) (Told j (Answered reply handed))
@@ -300,7 +299,7 @@ printed_finish t coder worker j j2 ended h =
     }
 
 -- where the device comes to, with n slots
-record Comes (coder : Coder) (n : ℕ) (d : DeviceState) : Type 0 where
+pub record Comes (coder : Coder) (n : ℕ) (d : DeviceState) : Type 0 where
   pub past : List DeviceEvent
   pub same : d ≡ device_after coder (new_device n) past
 
@@ -350,14 +349,14 @@ slots_from coder d (e ∷ es) = slots_from coder (device_step coder d e).device 
 pub slots_after : (coder : Coder) (n : ℕ) (es : List DeviceEvent) → length (device_after coder (new_device n) es).slots ≡ n
 slots_after coder n es = slots_from coder (new_device n) es ∙ length-replicate n None
 
-comes_slots : (coder : Coder) (n : ℕ) (d : DeviceState) → Comes coder n d → length d.slots ≡ n
+pub comes_slots : (coder : Coder) (n : ℕ) (d : DeviceState) → Comes coder n d → length d.slots ≡ n
 comes_slots coder n d c = ap (λ x. length x.slots) c.same ∙ slots_after coder n c.past
 
-comes_next : (coder : Coder) (n : ℕ) (d : DeviceState) (e : DeviceEvent) → Comes coder n d → Comes coder n (device_step coder d e).device
+pub comes_next : (coder : Coder) (n : ℕ) (d : DeviceState) (e : DeviceEvent) → Comes coder n d → Comes coder n (device_step coder d e).device
 comes_next coder n d e c =
     record { past = c.past ++ e ∷ []; same = ap (λ x. (device_step coder x e).device) c.same ∙ sym (after-append coder (new_device n) c.past e) }
 
-comes_known : (coder : Coder) (n : ℕ) (d : DeviceState) (j : ℕ) (request : Call) (bytes : List ℕ) (found : Bool) → Comes coder n d → HasKnownFourcc (answer (slot_of d j) request bytes found).reply
+pub comes_known : (coder : Coder) (n : ℕ) (d : DeviceState) (j : ℕ) (request : Call) (bytes : List ℕ) (found : Bool) → Comes coder n d → HasKnownFourcc (answer (slot_of d j) request bytes found).reply
 comes_known coder n d j request bytes found c =
     let s : slot_of d j ≡ solo_slot coder None (projection coder (new_device n) c.past j) = ap (λ x. slot_of x j) c.same ∙ (isolated coder n j c.past).slot in
     subst (λ x. HasKnownFourcc (answer x request bytes found).reply) (sym s) (fourccs_known coder (projection coder (new_device n) c.past j) request bytes found)
@@ -474,7 +473,7 @@ prints_both t x y xs ys p q =
       count = λ fault. subst (Counts fault (x ++ y)) (sym (ap (finishes_by_fault fault) (all-append xs ys) ∙ finishes-append fault (all_entries xs) (all_entries ys))) (counts_both fault x y (finishes_by_fault fault (all_entries xs)) (finishes_by_fault fault (all_entries ys)) (p.count fault) (q.count fault));
     }
 
-comes_after : (coder : Coder) (n : ℕ) (d : DeviceState) (es : List DeviceEvent) → Comes coder n d → Comes coder n (device_after coder d es)
+pub comes_after : (coder : Coder) (n : ℕ) (d : DeviceState) (es : List DeviceEvent) → Comes coder n d → Comes coder n (device_after coder d es)
 comes_after coder n d [] c = c
 comes_after coder n d (e ∷ es) c = comes_after coder n (device_step coder d e).device es (comes_next coder n d e c)
 

@@ -28,7 +28,7 @@ use Rattle.vc_model.specs.Answer.{Answer, unchanged, refused, answered, unless, 
 use Rattle.vc_model.specs.Runs.{is_claimable, sort_of, cap_after_claim, claim_front, after_claim, JobData, job_data, RunResult, copied, encoded, decoded, run_result, source_done, source_back, dest_done, dest_back, type_flag, source_moved, decoded_effect, run_effect, fault_effect, after_finish}
 use Rattle.vc_model.specs.Solo.{SoloEvent, Called, Claims, Finishes, solo_step, solo_slot, claim_step, solo_finish, finish_step}
 use Rattle.vc_model.specs.Sound.{count_index, IsSoundButUnsettled, IsOrdered, IsOrderedSlot}
-use Rattle.vc_model.specs.Places.{ready_or_done, DropsBuffers, BuffersAreDropped, same_side, not_held, not_held_in, call_returns, comes_back, call_queues, is_queued, returns_in, IsNotQueued, BackOnce}
+use Rattle.vc_model.specs.Places.{ready_or_done, BuffersAreDropped, same_side, not_held, not_held_in, call_returns, comes_back, call_queues, is_queued, returns_in, IsNotQueued, BackOnce}
 use Rattle.vc_model.proofs.Queues.{count-append, count_parts, find_index, once_at_most}
 use Rattle.vc_model.proofs.Firm.{without_job}
 use Rattle.vc_model.proofs.Ending.{step_sound, always_ordered}

@@ -1,9 +1,9 @@
 -- What the end of a history adds, and that each job is one worker's.
-use Rattle.std.proofs.Common.{ℕ, zero, suc, ◌≡◌, ◌≤◌, ◌<◌, ◌+◌, ◌==◌, eqb, ltb, Bool, true, false, not, cond, ◌&&◌, ◌||◌, is_none, Option, Some, None, List, [], ◌∷◌, ◌++◌, length, get_or, set, take, map, refl, sym, ap, ◌∙◌, subst, arith, ⊎_elim, get_or-set_same, get_or-set_other}
+use Rattle.std.proofs.Common.{ℕ, zero, suc, ◌≡◌, ◌<◌, ◌+◌, eqb, ltb, Bool, true, false, not, cond, ◌&&◌, ◌||◌, is_none, Option, Some, None, List, [], ◌∷◌, ◌++◌, length, get_or, set, map, refl, sym, ap, ◌∙◌, subst, arith, ⊎_elim, get_or-set_same, get_or-set_other}
 use Rattle.std.specs.Prelude.{replicate, option_map}
 use Rattle.std.specs.List.{list_any}
 use Rattle.std.proofs.Math.Seq.{take-append_seam}
-use Rattle.std.proofs.lemmas.Bool.{eqb-true, eqb-false, eq-eqb, ltb-true, ltb-false, false≢true}
+use Rattle.std.proofs.lemmas.Bool.{eqb-true, eqb-false, ltb-true, false≢true}
 use Rattle.vc_base.specs.declared.Call.{Call}
 use Rattle.vc_base.specs.declared.Reply.{Reply}
 use Rattle.vc_base.specs.Buffers.{Buffer, is_empty}
@@ -12,13 +12,13 @@ use Rattle.vc_model.specs.Coder.{Coder}
 use Rattle.vc_model.specs.Context.{Context, Slot, Running, RunSort, is_run}
 use Rattle.vc_model.specs.Answer.{answer}
 use Rattle.vc_model.specs.Runs.{is_claimable, sort_of, claim_front, after_claim, after_finish, JobData, job_data, front_is_due, is_unknown, ready_for_probe, ready_for_run}
-use Rattle.vc_model.specs.Solo.{SoloEvent, Called, Answered, solo_step, solo_slot}
-use Rattle.vc_model.specs.Devices.{DeviceState, DeviceReply, Told, Empty, DeviceStep, most_workers, new_device, slot_of, job_of, with_slot, ignored, call_answered, claim_slot, claim_first, finish_of, finish_slot, finish_job, device_step, device_after, device_run, projection}
+use Rattle.vc_model.specs.Solo.{Called, Answered, solo_step}
+use Rattle.vc_model.specs.Devices.{DeviceState, Told, Empty, DeviceStep, most_workers, new_device, slot_of, job_of, with_slot, ignored, call_answered, claim_slot, claim_first, finish_of, finish_slot, finish_job, device_step, device_after, device_run}
 use Rattle.vc_model.specs.JobList.{waits, ListIsExact}
-use Rattle.vc_model.specs.Standing.{AreSteps, IsHistory, job_in, job_in_slot, worker_job}
-use Rattle.vc_model.specs.Seats.{positions_from, is_shut_event, device_before, reply_at, HistoriesGrow, LastIsKnown, LastEvents, LastPositions, ShutsAreSeen, AnswersAreSolo, WorkersAreApart, JobsAreHeld}
+use Rattle.vc_model.specs.Standing.{AreSteps, job_in, job_in_slot}
+use Rattle.vc_model.specs.Seats.{positions_from, is_shut_event, HistoriesGrow, LastEvents, LastPositions, ShutsAreSeen, AnswersAreSolo, JobsAreHeld}
 use Rattle.vc_model.proofs.Tests.{and_left, and_right, or_cases}
-use Rattle.vc_model.proofs.Isolating.{isolated, is_there, closed_at_first}
+use Rattle.vc_model.proofs.Isolating.{isolated, is_there}
 use Rattle.vc_model.proofs.Listing.{exact_event, exact_list, front_waits}
 use Rattle.vc_model.proofs.Lasting.{Lasts, answer_lasts}
 

@@ -1,29 +1,27 @@
 -- Each step of a core is that of the device it stands for.
-use Rattle.std.proofs.Common.{ℕ, zero, suc, ◌≡◌, ◌≤◌, ◌<◌, ◌+◌, ◌==◌, eqb, ltb, Bool, true, false, not, cond, ◌&&◌, is_none, Option, Some, None, List, [], ◌∷◌, ◌++◌, map, length, get_or, set, take, drop, refl, sym, ap, ◌∙◌, subst, arith, get_or-set_same, length-set}
-use Rattle.std.specs.Prelude.{replicate, option_map, min}
-use Rattle.std.specs.List.{filter, list_any}
-use Rattle.std.proofs.lemmas.List.{length-map, map-set, length-take, get_or-take, set-get_or, take-replicate}
+use Rattle.std.proofs.Common.{ℕ, zero, suc, ◌≡◌, ◌≤◌, ◌<◌, ◌+◌, ◌==◌, ltb, Bool, true, false, cond, ◌&&◌, is_none, Option, Some, None, List, [], ◌∷◌, ◌++◌, map, length, get_or, set, take, drop, refl, sym, ap, ◌∙◌, subst, arith, get_or-set_same}
+use Rattle.std.specs.Prelude.{replicate, option_map}
+use Rattle.std.proofs.lemmas.List.{length-map, map-set, length-take, get_or-take, take-replicate}
 use Rattle.std.proofs.Math.Seq.{take-set-lt}
 use Rattle.std.proofs.lemmas.List.{drop-set-lt}
-use Rattle.std.proofs.lemmas.Bool.{eqb-true, eqb-false, ltb-true, ltb-false, lt-ltb, le-ltb, false≢true}
+use Rattle.std.proofs.lemmas.Bool.{ltb-true, ltb-false, lt-ltb, le-ltb, false≢true}
 use Rattle.vc_base.specs.declared.Stamp.{Stamp}
 use Rattle.vc_base.specs.declared.Call.{Call}
-use Rattle.vc_base.specs.declared.Reply.{Reply}
 use Rattle.vc_base.specs.Buffers.{Buffer, QueueState, give_back_from, give_back_after, retire_from, retire_after, last_flag, error_flag, without_bytes, without_job_bytes}
 use Rattle.vc_base.specs.Device.{DeviceEvent, call, claim, finish, shut}
 use Rattle.vc_base.specs.Events.{raise_after, source_change_event}
 use Rattle.vc_defs.specs.declared.Geometry.{Geometry}
 use Rattle.vc_model.specs.Formats.{formats_found}
-use Rattle.vc_model.specs.Coder.{Coder, CodecState, encoder, decoder, reset}
+use Rattle.vc_model.specs.Coder.{Coder, encoder, decoder, reset}
 use Rattle.vc_defs.specs.Decoder.{DecodedResult, picture, damaged, changed, spent, step_outcome}
 use Rattle.vc_model.specs.Context.{Context, Slot, Running, drain, change, owe, last, is_drained, raise_end, settle}
 use Rattle.vc_model.specs.Answer.{answer}
-use Rattle.vc_model.specs.Runs.{is_claimable, JobData, job_data, RunResult, copied, encoded, decoded, run_result, source_done, source_back, source_moved, dest_done, dest_back, decoded_effect, run_effect, fault_effect, stop_by_change, type_flag, after_claim, after_finish, finish_word, run_word}
+use Rattle.vc_model.specs.Runs.{is_claimable, JobData, job_data, RunResult, copied, encoded, decoded, run_result, source_done, source_back, source_moved, dest_done, dest_back, decoded_effect, run_effect, fault_effect, stop_by_change, type_flag, after_claim, after_finish, finish_word}
 use Rattle.vc_model.specs.Solo.{Answered, Claimed, Finished}
 use Rattle.vc_model.specs.Devices.{DeviceState, steps_of, Told, DeviceStep, most_workers, new_device, slot_of, job_of, waiting_after, with_slot, counted, ignored, call_answered, claim_slot, claim_first, finish_of, finish_slot, finish_job, device_step, device_after}
 use Rattle.vc_model.specs.JobList.{waits, ListIsExact}
-use Rattle.vc_model.specs.Standing.{CoreState, without_data, without_data_of, without_job, core_slot, core_answer, AreFree, core_of, IsDevice, Stands, AreSteps, IsHistory, StepsAreHistory, job_in, job_in_slot, worker_job}
-use Rattle.vc_model.specs.Core.{new_core, core_call, core_claim_slot, core_claim_first, core_claim, claimed_in, claimed_first, claimed_job, BroughtBack, back_effect, finished_context, back_word, word_of, core_finish_job, core_finish_slot, core_finish_of, core_finish, core_shut, result_of, brought_back, StandsFor, NewCoreStands, CallsStand, IsGiven, ClaimStands, ClaimsStand, FinishesStand, ShutStands, BlockedChangesNothing}
+use Rattle.vc_model.specs.Standing.{CoreState, without_job, core_slot, AreFree, core_of, IsDevice, AreSteps, StepsAreHistory, job_in, job_in_slot, worker_job}
+use Rattle.vc_model.specs.Core.{new_core, core_call, core_claim_slot, core_claim_first, core_claim, claimed_in, claimed_first, claimed_job, back_effect, finished_context, word_of, core_finish_job, core_finish_slot, core_finish_of, core_finish, core_shut, result_of, brought_back, StandsFor, NewCoreStands, CallsStand, IsGiven, ClaimsStand, FinishesStand, ShutStands}
 use Rattle.vc_model.proofs.Tests.{and_left}
 use Rattle.vc_model.proofs.Isolating.{is_there}
 use Rattle.vc_model.proofs.Listing.{exact_list, front_waits}
@@ -404,10 +402,10 @@ ended_follows coder w d worker k c r fault h f e =
     let x = after_finish coder c r fault in
     let d2 = record d { workers = set d.workers worker None } in (
       ap (λ y. core_finish_job (core_of w d) worker k (without_job c) y.running back) (without_some c r e)
-      ∙ (ap (λ y. record { device = counted (with_slot (record (core_of w d) { workers = set (take w d.workers) worker None }) k (Some y)) 1; reply = Told k (Finished (word_of back)) }) (finished_same coder c r fault e ∙ sym (without_none x (finish_idle coder c r fault)))
-      ∙ (ap (λ l. record { device = counted (with_slot (record (core_of w d) { workers = l }) k (core_slot (Some x))) 1; reply = Told k (Finished (word_of back)) }) (sym (take-set-lt w d.workers worker None h))
-      ∙ (ap (λ y. record { device = counted y 1; reply = Told k (Finished (word_of back)) }) (with_slot_same w d2 k (Some x))
-      ∙ ap (λ t. record { device = core_of w (counted (with_slot d2 k (Some x)) 1); reply = Told k (Finished t) }) (word_split coder j fault)))),
+          ∙ (ap (λ y. record { device = counted (with_slot (record (core_of w d) { workers = set (take w d.workers) worker None }) k (Some y)) 1; reply = Told k (Finished (word_of back)) }) (finished_same coder c r fault e ∙ sym (without_none x (finish_idle coder c r fault)))
+          ∙ (ap (λ l. record { device = counted (with_slot (record (core_of w d) { workers = l }) k (core_slot (Some x))) 1; reply = Told k (Finished (word_of back)) }) (sym (take-set-lt w d.workers worker None h))
+          ∙ (ap (λ y. record { device = counted y 1; reply = Told k (Finished (word_of back)) }) (with_slot_same w d2 k (Some x))
+          ∙ ap (λ t. record { device = core_of w (counted (with_slot d2 k (Some x)) 1); reply = Told k (Finished t) }) (word_split coder j fault)))),
       claimed_free w d.workers worker None h f,
     )
 

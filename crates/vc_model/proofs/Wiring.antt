@@ -1,14 +1,7 @@
 -- Each slot of the wire is replied to as by itself, and the replay of an audit finds nothing exactly where a report is right.
-use Rattle.std.proofs.Common.{ℕ, ◌≡◌, ◌+◌, Bool, true, false, cond, Option, Some, None, List, [], ◌∷◌, ◌++◌, length, take, drop, refl, sym, ap, ◌∙◌, subst}
-use Rattle.std.specs.Prelude.{bytes_eq}
-use Rattle.std.specs.List.{flat_map}
+use Rattle.std.proofs.Common.{ℕ, ◌≡◌, List, [], ◌∷◌, ◌++◌, refl, sym, ap, ◌∙◌}
 use Rattle.std.proofs.lemmas.Grind.{flat_map-append}
-use Rattle.std.proofs.lemmas.Bool.{false≢true}
-use Rattle.std.proofs.lemmas.Slice.Eq.{bytes_eq-Decides}
-use Rattle.vc_base.specs.Buffers.{is_empty}
-use Rattle.vc_model.specs.Coder.{Coder}
-use Rattle.vc_model.specs.Solo.{SoloEntry}
-use Rattle.vc_model.specs.Devices.{DeviceState, DeviceEntry, new_device, device_after, device_run, projection, entry_for, entries_of}
+use Rattle.vc_model.specs.Devices.{DeviceEntry, new_device, device_run, entry_for, entries_of}
 use Rattle.vc_model.specs.Wire.{solo_reply, slot_replies, replies_of, events_of_wire, SlotsAreRepliedTo}
 use Rattle.vc_model.proofs.Isolating.{isolated}
 

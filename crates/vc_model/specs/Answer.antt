@@ -1,4 +1,4 @@
--- What one context answers to a call: a case for each row of the table of calls. The tests of a row are
+-- What one context answers to a call: a case for each row of the table of calls (docs/DEVICE.md, "Calls"; the page of each ioctl). The tests of a row are
 -- made in order, and the first that applies decides. A refusal and Blocked change nothing.
 use Rattle.std.specs.Prelude.{ℕ, min, Bool, true, false, not, ◌&&◌, ◌||◌, if◌then◌else◌, ◌==◌, nat_lt, nat_le, is_none, is_some, Option, Some, None, List, [], ◌∷◌, slice_get}
 use Rattle.vc_base.specs.declared.Side.{Side}
@@ -43,16 +43,16 @@ abbrev pub unless : Context → Option Errno → Answer → Answer
 unless c (Some errno) effect = refused c errno
 unless c None effect = effect
 
--- want of memory is an answer after every other test
+-- want of memory (ENOMEM) is an answer after every other test
 abbrev pub if_found : Context → Bool → Answer → Answer
 if_found c true effect = effect
 if_found c false effect = refused c NoMem
 
--- Blocked while a job runs
+-- Blocked while a job runs (docs/DEVICE.md, "What is our own"; the kernel waits in VIDIOC_STREAMOFF)
 abbrev pub unless_running : Context → Answer → Answer
 unless_running c effect = if is_none c.running then effect else unchanged c Blocked
 
--- Formats
+-- Formats (VIDIOC_ENUM_FMT; VIDIOC_G_FMT, VIDIOC_S_FMT and VIDIOC_TRY_FMT)
 
 abbrev pub desc_answer : Context → Option Fourcc → Answer
 desc_answer c None = refused c Inval
@@ -82,7 +82,7 @@ set_answer c side want =
     let formats = formats_for c.kind side c.formats want in
     unless c (set_refusal c side) (answered (after_new_format c.kind side (record c { formats = formats })) (Fmt (format_of formats side)))
 
--- Buffers
+-- Buffers (VIDIOC_REQBUFS, VIDIOC_CREATE_BUFS, VIDIOC_QUERYBUF, VIDIOC_QBUF, VIDIOC_DQBUF)
 
 -- what ReqBufs does beside: on OUTPUT the codec state is reset, and a decoder has no geometry
 abbrev pub after_new_buffers : Kind → Side → Context → Context
@@ -106,7 +106,7 @@ abbrev pub query_answer : Context → Option Reply → Answer
 query_answer c None = refused c Inval
 query_answer c (Some reply) = unchanged c reply
 
--- an encoder takes whole pictures only
+-- an encoder takes whole pictures only ("Encoding" of the stateful encoder)
 abbrev pub is_part_of_picture : Context → Side → ℕ → Bool
 is_part_of_picture c Out used = is_enc c.kind && not (used == sizeimage c Out)
 is_part_of_picture c Cap used = false
@@ -121,14 +121,14 @@ abbrev pub is_ended : Context → Side → Bool
 is_ended c Out = false
 is_ended c Cap = is_stopped c.phase
 
--- where waiting would help the reply is Blocked
+-- where waiting would help the reply is Blocked (O_NONBLOCK, VIDIOC_DQBUF and VIDIOC_DQEVENT)
 abbrev pub unless_or_block : Context → Option Errno → Bool → Answer → Answer
 unless_or_block c None block effect = effect
 unless_or_block c (Some Again) block effect = if block then unchanged c Blocked else refused c Again
 unless_or_block c (Some NoEnt) block effect = if block then unchanged c Blocked else refused c NoEnt
 unless_or_block c (Some errno) block effect = refused c errno
 
--- the user took the final entry of CAPTURE's done list in phase Last
+-- the user took the final entry of CAPTURE's done list in phase Last ("Drain" of both chapters)
 abbrev pub stop_at_last : Context → PhaseState → Bool → Context
 stop_at_last c (last drain) true = record c { phase = stopped drain; mark = None }
 stop_at_last c (last change) true = record c { phase = stopped change }
@@ -149,7 +149,7 @@ dqbuf_answer c side block =
     let q = queue_of c side in
     unless_or_block c (dqbuf_refusal q (is_ended c side)) block (taken_answer c side q.done)
 
--- Streaming
+-- Streaming (VIDIOC_STREAMON, VIDIOC_STREAMOFF)
 
 abbrev pub streamon_answer : Context → Side → Answer
 streamon_answer c side =
@@ -166,7 +166,7 @@ without_drain_stop (last change) = last change
 without_drain_stop (stopped drain) = run
 without_drain_stop (stopped change) = stopped change
 
--- the seek of a decoder
+-- the seek of a decoder ("Seek" of the stateful decoder)
 abbrev pub after_output_off : Kind → Context → Context
 after_output_off Copy c = c
 after_output_off Enc c = c
@@ -182,7 +182,7 @@ mark_after_restart (last change) mark = mark
 mark_after_restart (stopped drain) mark = None
 mark_after_restart (stopped change) mark = mark
 
--- an encoder begins anew when CAPTURE stops streaming
+-- an encoder begins anew when CAPTURE stops streaming ("Reset" of the stateful encoder)
 abbrev pub after_capture_off : Kind → Context → Context
 after_capture_off Copy c = c
 after_capture_off Enc c = record c { codec = reset c.codec }
@@ -197,7 +197,7 @@ streamoff_effect c Cap =
 abbrev pub streamoff_answer : Context → Side → Answer
 streamoff_answer c side = unless_running c (answered (streamoff_effect c side) Done)
 
--- Events
+-- Events (VIDIOC_SUBSCRIBE_EVENT, VIDIOC_UNSUBSCRIBE_EVENT, VIDIOC_DQEVENT)
 
 abbrev pub subscribe_answer : Context → ℕ → Answer
 subscribe_answer c event =
@@ -211,7 +211,7 @@ abbrev pub dqevent_answer : Context → Bool → Answer
 dqevent_answer c block =
     unless_or_block c (refuse_if (is_empty c.events.pending) NoEnt None) block (answered (record c { events = take_event_after c.events }) (event_reply c.events.pending))
 
--- STOP and START
+-- STOP and START (VIDIOC_DECODER_CMD, VIDIOC_ENCODER_CMD; "Drain" of both chapters)
 
 abbrev pub both_stream : Context → Bool
 both_stream c = c.out.streams && c.cap.streams
@@ -246,7 +246,7 @@ abbrev pub command_answer : Context → ℕ → Answer
 command_answer c cmd =
     if cmd == 0 then start_answer c else (if cmd == 1 then stop_answer c else refused c Inval)
 
--- Controls
+-- Controls (VIDIOC_G_CTRL, VIDIOC_S_CTRL; "Encoding Parameter Changes" of the stateful encoder)
 
 -- the value of a control, where the kind has it
 abbrev pub control_of : Kind → RunRates → ℕ → Option ℕ
@@ -272,7 +272,7 @@ abbrev pub control_answer : Context → Option RunRates → Answer
 control_answer c None = refused c Inval
 control_answer c (Some rates) = answered (record c { rates = rates }) Done
 
--- Poll
+-- Poll ("V4L2 poll()")
 
 abbrev pub readiness : Context → Reply
 readiness c =

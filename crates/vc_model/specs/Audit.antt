@@ -1,10 +1,10 @@
 -- The audit of a report: whether it is what a device may print for a script, and which of its lines is the first that no device
 -- prints there (docs/FORMAT.md, "Audit").
-use Rattle.std.specs.Prelude.{ℕ, ◌≡◌, ◌<◌, ◌+◌, Bool, true, false, if◌then◌else◌, ◌==◌, bytes_eq, codes, length, take, drop, Option, Some, None, List, [], ◌∷◌, ◌++◌}
+use Rattle.std.specs.Prelude.{ℕ, ◌≡◌, ◌<◌, ◌≤◌, ◌+◌, if◌then◌else◌, bytes_eq, codes, length, drop, Option, Some, None, List, [], ◌∷◌, ◌++◌}
 use Rattle.vc_base.specs.Buffers.{is_empty}
 use Rattle.vc_model.specs.Coder.{Coder}
 use Rattle.vc_model.specs.Devices.{DeviceState, new_device, device_after}
-use Rattle.vc_model.specs.Script.{ReplyText, Asked, line_events, line_text, lines_printed, printed_by, first_lines, split_lines, Prints}
+use Rattle.vc_model.specs.Script.{ReplyText, Asked, line_events, line_text, lines_printed, printed_by, first_lines, split_lines, Prints, most_slots, AreAsked, IsLineText}
 
 -- A report is right where a device of n slots may print it for the script.
 abbrev pub IsRight : ReplyText → Coder → ℕ → List Asked → List ℕ → Type 0
@@ -75,7 +75,7 @@ audit_input bytes = audit_lines (split_lines bytes)
 -- The replay finds nothing exactly where the report is right.
 pub record FindsRight (t : ReplyText) (coder : Coder) (n : ℕ) (lines : List Asked) (report : List ℕ) : Type 0 where
   pub right : first_wrong_line t coder n lines report ≡ None → IsRight t coder n lines report
-  pub found : IsRight t coder n lines report → first_wrong_line t coder n lines report ≡ None
+  pub found : IsLineText t → n ≤ most_slots → AreAsked n lines → IsRight t coder n lines report → first_wrong_line t coder n lines report ≡ None
 
 abbrev pub ReplayFindsRight : Type 0
 ReplayFindsRight =

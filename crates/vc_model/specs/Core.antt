@@ -1,5 +1,5 @@
 -- The steps of a core: what each call, claim, finish and shut makes of the state that it keeps, where the data of running jobs
--- are with the jobs (docs/DEVICE.md, "Core and jobs").
+-- are with the jobs (docs/DEVICE.md, "Many contexts").
 use Rattle.std.specs.Prelude.{ℕ, ◌≡◌, ◌≤◌, ◌<◌, Bool, true, false, if◌then◌else◌, nat_lt, is_none, codes, set, replicate, length, Option, Some, None, List, [], ◌∷◌, ◌++◌}
 use Rattle.vc_base.specs.declared.Call.{Call}
 use Rattle.vc_base.specs.declared.Reply.{Reply}
@@ -8,11 +8,11 @@ use Rattle.vc_base.specs.declared.Errno.TheVariants.{NoMem}
 use Rattle.vc_base.specs.Device.{DeviceEvent, call, claim, finish, shut}
 use Rattle.vc_model.specs.Coder.{Coder}
 use Rattle.vc_model.specs.Context.{Context, Slot, Running, settle}
-use Rattle.vc_model.specs.Answer.{Answer, answer}
-use Rattle.vc_model.specs.Runs.{is_claimable, JobData, RunResult, run_result, run_effect, fault_effect, run_word, after_claim}
+use Rattle.vc_model.specs.Answer.{answer}
+use Rattle.vc_model.specs.Runs.{JobData, RunResult, run_result, run_effect, fault_effect, run_word, after_claim}
 use Rattle.vc_model.specs.Solo.{Answered, Claimed, Finished}
 use Rattle.vc_model.specs.Devices.{DeviceState, DeviceReply, Told, NoJob, Empty, DeviceStep, most_workers, new_device, slot_of, job_of, with_slot, counted, ignored, call_answered, device_step, device_after}
-use Rattle.vc_model.specs.Standing.{CoreState, without_job, Stands, job_in, job_in_slot, worker_job}
+use Rattle.vc_model.specs.Standing.{CoreState, without_job, Stands, job_in, worker_job}
 
 -- n closed slots, and w workers without a job
 abbrev pub new_core : ℕ → ℕ → CoreState

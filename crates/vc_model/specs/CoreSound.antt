@@ -1,6 +1,6 @@
 -- What holds of every context as a core keeps it: all that is sound of the context of the device, but for the data of its
 -- running job.
-use Rattle.std.specs.Prelude.{ℕ, ◌≡◌, ◌≤◌, Bool, true, false, is_some, length, Option, Some, None, List, []}
+use Rattle.std.specs.Prelude.{ℕ, ◌≡◌, ◌≤◌, true, false, is_some, length, Option, Some, None, List, []}
 use Rattle.vc_base.specs.declared.Side.TheVariants.{Out, Cap}
 use Rattle.vc_base.specs.Device.{DeviceEvent}
 use Rattle.vc_model.specs.Coder.{Coder}

@@ -1,6 +1,6 @@
 -- The messages of the wire: how bytes are cut into messages, and what a message asks for (docs/FORMAT.md, "The wire"). All
 -- numbers are big-endian.
-use Rattle.std.specs.Prelude.{ℕ, zero, suc, ◌≡◌, ◌+◌, ◌-◌, Bool, true, false, not, ◌&&◌, if◌then◌else◌, ◌==◌, nat_lt, nat_le, length, take, drop, Option, Some, None, option_and_then, List, [], ◌∷◌, ◌++◌}
+use Rattle.std.specs.Prelude.{ℕ, zero, suc, ◌+◌, ◌-◌, Bool, true, false, not, ◌&&◌, if◌then◌else◌, ◌==◌, nat_lt, nat_le, length, take, drop, Option, Some, None, option_and_then, List, [], ◌∷◌, ◌++◌}
 use Rattle.std.specs.Int.{to_be_bytes, from_be_bytes, w32, w64}
 use Rattle.std.specs.List.{list_all, find}
 use Rattle.vc_base.specs.declared.Side.{Side}

@@ -1,18 +1,17 @@
 -- What a caller knows of the history of a shared device: of a handle, which makes the calls of one slot, and of a worker's seat,
--- which claims and finishes jobs (docs/DEVICE.md, "History").
-use Rattle.std.specs.Prelude.{ℕ, ◌≡◌, ◌<◌, ◌+◌, Bool, true, false, ◌&&◌, ◌||◌, ◌==◌, nat_lt, if◌then◌else◌, take, length, map, get_or, slice_get, Option, Some, None, List, [], ◌∷◌, ◌++◌}
+-- which claims and finishes jobs (docs/DEVICE.md, "Many contexts").
+use Rattle.std.specs.Prelude.{ℕ, ◌≡◌, ◌+◌, Bool, true, false, ◌||◌, ◌==◌, nat_lt, if◌then◌else◌, take, length, map, get_or, slice_get, Option, Some, None, List, [], ◌∷◌, ◌++◌}
 use Rattle.std.specs.List.{filter, flat_map, list_any}
 use mathlib.Core.List.{IsPrefix}
 use Rattle.vc_base.specs.declared.Call.{Call}
 use Rattle.vc_base.specs.declared.Reply.{Reply}
 use Rattle.vc_base.specs.declared.Reply.TheVariants.{Blocked}
-use Rattle.vc_base.specs.Buffers.{is_empty}
 use Rattle.vc_base.specs.Device.{DeviceEvent, call, claim, finish, shut}
 use Rattle.vc_model.specs.Coder.{Coder}
 use Rattle.vc_model.specs.Answer.{answer}
 use Rattle.vc_model.specs.Runs.{JobData}
-use Rattle.vc_model.specs.Solo.{SoloEvent, Called, SoloReply, Answered, Claimed, Finished, solo_step, solo_slot}
-use Rattle.vc_model.specs.Devices.{DeviceState, DeviceReply, Told, NoJob, Empty, new_device, slot_of, job_of, device_step, device_after, device_run, projection}
+use Rattle.vc_model.specs.Solo.{Called, Answered, Claimed, Finished, solo_step, solo_slot}
+use Rattle.vc_model.specs.Devices.{DeviceState, DeviceReply, Told, Empty, new_device, slot_of, job_of, device_step, device_after, device_run, projection}
 use Rattle.vc_model.specs.Standing.{CoreState, Stands, IsHistory, worker_job}
 
 -- Positions

@@ -1,4 +1,4 @@
--- What holds of every context after every step.
+-- What holds of every context after every step (docs/DEVICE.md, "One context" and "Calls").
 use Rattle.std.specs.Prelude.{ℕ, ◌≡◌, ◌<◌, ◌≤◌, ◌+◌, Bool, true, false, not, ◌&&◌, ◌==◌, nat_lt, nat_le, if◌then◌else◌, bit_and, is_none, is_some, Option, Some, None, List, [], ◌∷◌, ◌++◌, length}
 use Rattle.std.specs.List.{list_all, list_any}
 use Rattle.vc_base.specs.declared.Side.TheVariants.{Out, Cap}

@@ -1,5 +1,5 @@
 -- The wire: the replies to messages, and which lists of replies a device may give (docs/FORMAT.md, "The wire").
-use Rattle.std.specs.Prelude.{ℕ, ◌≡◌, ◌+◌, ◌-◌, Bool, true, false, not, ◌&&◌, if◌then◌else◌, ◌==◌, is_none, bytes_eq, codes, length, take, drop, Option, Some, None, List, [], ◌∷◌, ◌++◌}
+use Rattle.std.specs.Prelude.{ℕ, ◌≡◌, ◌+◌, ◌-◌, Bool, true, false, not, ◌&&◌, if◌then◌else◌, is_none, bytes_eq, codes, length, take, drop, Option, Some, None, List, [], ◌∷◌, ◌++◌}
 use Rattle.std.specs.List.{flat_map}
 use Rattle.vc_base.specs.declared.Side.TheVariants.{Cap}
 use Rattle.vc_base.specs.declared.Errno.TheVariants.{NoMem}
@@ -11,8 +11,8 @@ use Rattle.vc_base.specs.Errnos.{errno_number}
 use Rattle.vc_base.specs.Device.{DeviceEvent, call, claim, finish}
 use Rattle.vc_model.specs.Coder.{Coder}
 use Rattle.vc_model.specs.Solo.{SoloEvent, Called, SoloReply, Answered, Claimed, Finished, SoloEntry, solo_run}
-use Rattle.vc_model.specs.Devices.{DeviceState, DeviceReply, Told, NoJob, Empty, DeviceEntry, new_device, job_of, device_after, device_run, projection, entry_for}
-use Rattle.vc_model.specs.Script.{Asked, AsksNothing, AsksCall, AsksClaim, AsksFinish, AsksRun}
+use Rattle.vc_model.specs.Devices.{DeviceState, DeviceReply, Told, NoJob, DeviceEntry, new_device, job_of, device_after, device_run, projection, entry_for}
+use Rattle.vc_model.specs.Script.{Asked, AsksCall, AsksClaim, AsksFinish}
 use Rattle.vc_model.specs.Messages.{number_bytes, wide_bytes, number_at, messages, asked_in}
 
 -- Replies

@@ -1,18 +1,15 @@
 -- The rows of a pair and those of a context.
-use Rattle.std.proofs.Common.{◌≡◌, ◌&&◌, Bool, true, false, cond, List, [], ◌∷◌, refl, ap, ◌∙◌, ℕ, ◌+◌, not, Option, Some, None, bit_or, sym}
+use Rattle.std.proofs.Common.{◌≡◌, ◌&&◌, Bool, true, false, cond, List, [], ◌∷◌, refl, ap, ◌∙◌, ℕ, ◌+◌, not, Some, None, bit_or, sym}
 use Rattle.std.specs.Prelude.{is_none, is_some}
-use Rattle.vc_base.specs.declared.Side.{Side}
 use Rattle.vc_base.specs.declared.Side.TheVariants.{Out, Cap}
 use Rattle.vc_base.specs.declared.Stamp.{Stamp}
 use Rattle.vc_base.specs.declared.Errno.TheVariants.{Busy, Inval}
 use Rattle.vc_base.specs.declared.Reply.TheVariants.{Done}
-use Rattle.vc_base.specs.Buffers.{Buffer, is_empty, dqbuf_after, streamoff_after, retire_after, lend_after, last_flag, zero_stamp, long_enough, refuse_if}
-use Rattle.vc_model.specs.Context.{Context, Cause, drain, change, PhaseState, run, owe, last, stopped, is_run, is_drained, settle, settle_drain, settle_last, give_last, raise_end, queue_of, with_queue, sizeimage}
-use Rattle.vc_model.specs.Answer.{Answer, after_taking, stop_at_last, streamoff_effect, after_output_off, after_capture_off, unchanged, refused, answered, is_stopped_by_drain, start_is_early, mark_after_restart}
-use Rattle.vc_model.specs.Runs.{stop_by_change, front_is_due, dest_done}
-use Rattle.vc_queue.specs.Answers.{after_of}
-use Rattle.vc_pair.specs.Pairs.{PairState, pair_taken, pair_at_last, pair_off, pair_changed, pair_settled, owing, given, gives_end, raises_end, last_given, cap_retired, is_final, is_due, IsSettled}
-use Rattle.vc_pair.specs.Rows.{pair_of, with_pair, ended_if, settled_with, JobsAgree, told, AnswersWith, SameTaken, SameOff, SameSettled, SameCommands, SameChange, IsRunFlag, no_flag, keyframe, pframe, error, SameRetired, SameDue}
+use Rattle.vc_base.specs.Buffers.{Buffer, is_empty, dqbuf_after, streamoff_after, retire_after, last_flag, long_enough, refuse_if}
+use Rattle.vc_model.specs.Context.{Context, Cause, drain, change, PhaseState, run, owe, last, stopped, is_run, is_drained, settle, settle_drain, settle_last, give_last, raise_end, sizeimage}
+use Rattle.vc_model.specs.Answer.{stop_at_last, after_capture_off, unchanged, refused, answered, is_stopped_by_drain, start_is_early, mark_after_restart}
+use Rattle.vc_pair.specs.Pairs.{PairState, pair_at_last, pair_settled, owing, given, gives_end, last_given, IsSettled}
+use Rattle.vc_pair.specs.Rows.{pair_of, with_pair, ended_if, settled_with, JobsAgree, AnswersWith, SameTaken, SameOff, SameSettled, SameCommands, SameChange, IsRunFlag, no_flag, keyframe, pframe, error, SameRetired, SameDue}
 use Rattle.vc_pair.proofs.Settling.{settled_alone, settled_quiet}
 
 at_last : (c : Context) (phase : PhaseState) (emptied : Bool) → stop_at_last c phase emptied ≡ with_pair c (pair_at_last (pair_of c) phase emptied)

@@ -1,17 +1,17 @@
 -- What a call or a finish does to a context it does to its pair, but for formats, events and codec state.
-use Rattle.std.specs.Prelude.{ℕ, ◌+◌, ◌≡◌, ◌&&◌, bit_or, if◌then◌else◌, is_none, Bool, true, false, Option, Some, None, List, ◌∷◌}
+use Rattle.std.specs.Prelude.{ℕ, ◌≡◌, ◌&&◌, if◌then◌else◌, is_none, Bool, true, false, Option, Some, None, List, ◌∷◌}
 use Rattle.vc_base.specs.declared.Side.{Side}
 use Rattle.vc_base.specs.declared.Side.TheVariants.{Out, Cap}
 use Rattle.vc_base.specs.declared.Stamp.{Stamp}
 use Rattle.vc_base.specs.declared.Errno.{Errno}
 use Rattle.vc_base.specs.declared.Reply.{Reply}
 use Rattle.vc_base.specs.declared.Reply.TheVariants.{Done, Refused}
-use Rattle.vc_base.specs.Buffers.{Buffer, is_empty, last_flag, dqbuf_after, keyframe_flag, pframe_flag, error_flag}
+use Rattle.vc_base.specs.Buffers.{Buffer, is_empty, dqbuf_after, keyframe_flag, pframe_flag, error_flag}
 use Rattle.vc_model.specs.Context.{Context, drain, sizeimage, settle, queue_of, with_queue, raise_end}
 use Rattle.vc_model.specs.Answer.{Answer, after_taking, streamoff_effect, after_output_off, after_capture_off, stop_answer, start_answer}
 use Rattle.vc_model.specs.Runs.{stop_by_change, front_is_due, dest_done}
 use Rattle.vc_queue.specs.Answers.{after_of}
-use Rattle.vc_pair.specs.Pairs.{PairState, pair_taken, pair_off, pair_changed, pair_settled, raises_end, cap_retired, is_final, is_due, stop_refusal, pair_marked, start_refusal, pair_started, IsSettled}
+use Rattle.vc_pair.specs.Pairs.{PairState, pair_taken, pair_off, pair_changed, pair_settled, raises_end, cap_retired, is_final, is_due, stop_refusal, pair_marked, start_refusal, pair_started}
 
 -- the pair of a context
 abbrev pub pair_of : Context → PairState

@@ -1,4 +1,8 @@
 //! Two queues with a phase and a mark: draining, stopping and settling.
+//!
+//! The rules follow the sections "Drain" of the chapters "Memory-to-Memory Stateful Video Decoder Interface"
+//! and "Memory-to-Memory Stateful Video Encoder Interface", and "Dynamic Resolution Change" of the first, of
+//! the Linux userspace API documentation, as far as docs/DEVICE.md does not say otherwise.
 #![tactic(auto)]
 
 ghost use Rattle.std.specs.Prelude.{◌≡◌, ◌≢◌, ◌<◌, ◌^◌, not, ◌&&◌, ◌||◌, ℕ, None, Some, List, [], ◌∷◌, take, bit_or, is_some, false, IsTrue, min, OnErr, ◌++◌};
@@ -8,7 +12,7 @@ ghost use Rattle.vc_model.specs.Context.{run, owe, last, stopped, is_run, is_sto
 ghost use Rattle.vc_model.specs.Answer.{is_stopped_by_drain, start_is_early, without_drain_stop, mark_after_restart};
 ghost use Rattle.vc_queue.specs.Answers.{answer_of, after_of, queued_bytes, front_taken, HandsBack};
 ghost use Rattle.vc_queue.specs.Growing.{AnswersWithMemory, KeepsFirst};
-ghost use Rattle.vc_queue.specs.Holds.{with_payload};
+ghost use Rattle.vc_queue.specs.Holds.{HoldState, with_payload};
 ghost use Rattle.vc_queue.specs.Releasing.{AllGoToUser};
 ghost use Rattle.vc_queue.specs.Lending.{IsLentFrom, IsBack, back_bytes};
 ghost use Rattle.vc_pair.specs.Pairs.{PairState, new_pair, queue_at, with_queue_at, IsIdle, both_streaming, stop_refusal, pair_marked, start_refusal, pair_started, is_final, cap_retired, out_retired, pair_changed, owes_last, owing, is_owing, given, gives_end, FitsBoth, is_ended_at, pair_at_last, pair_taken, pair_off, pair_settled, raises_end, is_due, IsSettled};
@@ -28,13 +32,19 @@ const LAST: u32 = 0x100000;
 /// Whether jobs may run, and where a stop stands.
 #[derive(Clone, Copy, Debug, PartialEq, Eq)]
 pub enum Phase {
+    /// Jobs may run. With a mark a drain is in progress.
     Run,
+    /// A LAST buffer is due, and no CAPTURE buffer was ready for it.
     Owe,
+    /// The LAST buffer is the final entry of CAPTURE's done list.
     Last,
+    /// The LAST buffer was dequeued.
     Stopped,
 }
 
-/// The queues of a context, its phase with the cause, and its mark.
+/// The queues of a context, its phase with the cause, and its mark. A stop is by a drain or by a change of
+/// the resolution. The mark is the number of OUTPUT buffers that were queued before STOP; a buffer is
+/// before the mark where its ordinal is smaller.
 #[derive(Drop)]
 pub struct Pair {
     out: Queue,
@@ -56,7 +66,7 @@ impl Model for Pair {
 }
 
 impl Pair {
-    /// Two queues without buffers, in phase Run.
+    /// Two queues without buffers, in phase Run without a mark.
     pub fn new() -> Pair
         ensures { result ≡ new_pair }
     {
@@ -109,7 +119,10 @@ impl Pair {
         }
     }
 
-    /// Lets a queue stream.
+    /// VIDIOC_STREAMON of a side. `least` is the size of a buffer for the present format.
+    ///
+    /// # Errors
+    /// Those of [`Queue::streamon`].
     pub fn streamon(&mut self, side: Side, least: u32) -> Result<(), Errno>
         ensures answer { result ≡ answer_of (streamon_refusal (queue_at self.old side) least) tt }
         ensures after { self.new ≡ with_queue_at self.old side (after_of (streamon_refusal (queue_at self.old side) least) (queue_at self.old side) (streamon_after (queue_at self.old side))) }
@@ -139,7 +152,12 @@ impl Pair {
         }
     }
 
-    /// Begins a drain: sets the mark behind all that was queued on OUTPUT.
+    /// STOP (V4L2_DEC_CMD_STOP, V4L2_ENC_CMD_STOP): begins a drain, by a mark behind all that was queued on
+    /// OUTPUT. It is without effect where a queue does not stream, or the pair stopped by a drain. Settling
+    /// comes after it.
+    ///
+    /// # Errors
+    /// EBUSY where both queues stream and a drain is in progress.
     pub fn stop(&mut self) -> Result<(), Errno>
         ensures answer { result ≡ answer_of (stop_refusal self.old) tt }
         ensures after { self.new ≡ after_of (stop_refusal self.old) self.old (pair_marked self.old) }
@@ -169,7 +187,13 @@ impl Pair {
         }
     }
 
-    /// Ends a stop.
+    /// START (V4L2_DEC_CMD_START, V4L2_ENC_CMD_START): ends a stop whose LAST buffer was dequeued; a mark that
+    /// a change left stays. It is without effect where a queue does not stream, or jobs may run. `least` is
+    /// the size of a CAPTURE buffer for the present format. Settling comes after it.
+    ///
+    /// # Errors
+    /// Where both queues stream: EBUSY where a drain is in progress in phase Run, or the LAST buffer is due or
+    /// not yet dequeued; else EINVAL where [`Queue::long_enough`] of CAPTURE is false.
     pub fn start(&mut self, least: u32) -> Result<(), Errno>
         ensures answer { result ≡ answer_of (start_refusal self.old least) tt }
         ensures after { self.new ≡ after_of (start_refusal self.old least) self.old (pair_started self.old) }
@@ -187,7 +211,8 @@ impl Pair {
         Ok(())
     }
 
-    /// Stops the pair for a new resolution, where CAPTURE streams.
+    /// Stops the pair for a new resolution, where CAPTURE streams: a LAST buffer is due. Settling comes after
+    /// it.
     pub fn change(&mut self)
         requires { IsIdle self.old }
         ensures { self.new ≡ pair_changed self.old }
@@ -198,7 +223,8 @@ impl Pair {
         }
     }
 
-    /// Moves the front of ready of a queue into the job.
+    /// Moves the front of ready of a queue into the job, and hands out its payload. Jobs run in phase Run
+    /// alone.
     pub fn lend(&mut self, side: Side) -> Lent
         requires running { self.old.phase ≡ run }
         requires ready { (queue_at self.old side).ready ≢ [] }
@@ -212,7 +238,7 @@ impl Pair {
         }
     }
 
-    /// Puts the lent buffer back at the front of ready.
+    /// Puts the lent buffer of a queue back at the front of ready, with the cursor that it carries.
     pub fn give_back(&mut self, side: Side, lent: Lent)
         requires one { (queue_at self.old side).job ≢ [] }
         requires whole { IsBack (queue_at self.old side).job lent }
@@ -224,7 +250,7 @@ impl Pair {
         }
     }
 
-    /// Puts the lent OUTPUT buffer on done, as it was queued.
+    /// Puts the lent OUTPUT buffer on done, with the flags, and used bytes and stamp as it was queued.
     pub fn retire_out(&mut self, lent: Lent, flags: u32)
         requires one { self.old.out.job ≢ [] }
         requires whole { IsBack self.old.out.job lent }
@@ -237,8 +263,9 @@ impl Pair {
         self.out.retire(lent, used, flags, stamp);
     }
 
-    /// Puts the lent CAPTURE buffer on done. It is the LAST one where the drain has no further source:
-    /// then the answer is true.
+    /// Puts the lent CAPTURE buffer on done, with used bytes, flags and stamp as given. Where there is a mark
+    /// and no ready OUTPUT buffer is before it, the buffer has LAST too, the phase is Last by a drain, and the
+    /// answer is true: the event of the end of the drain is to be raised. The source has to be out of the job.
     pub fn retire_cap(&mut self, lent: Lent, used: u32, flags: u32, stamp: Stamp) -> bool
         requires one { self.old.cap.job ≢ [] }
         requires whole { IsBack self.old.cap.job lent }
@@ -321,20 +348,26 @@ impl Pair {
         !self.by_change
     }
 
-    /// Settles: a drained pair owes its LAST buffer, and the LAST buffer that is owed is given. The
-    /// answer is true where a drain has come to its end.
+    /// Settles, after every call and every finish. In phase Run with a mark, with CAPTURE streaming, no job
+    /// and no ready OUTPUT buffer before the mark, the LAST buffer of the drain is due. A LAST buffer that is
+    /// due is given as soon as a CAPTURE buffer is ready: the front one goes to done, empty and with stamp 0.
+    /// The answer is true where a drain has come to its end: its event is to be raised.
     pub fn settle(&mut self) -> bool
         requires counts { self.old.cap.next_seq < 2 ^ 62 }
         ensures after { self.new ≡ pair_settled self.old }
         ensures raises { result ≡ raises_end self.old }
         ensures settled { IsSettled self.new }
         ensures again { IsSettled self.old → (self.new ≡ self.old) × (result ≡ false) }
+        ensures fit { (hold : HoldState) → FitsBoth self.old hold → FitsBoth self.new hold }
     {
         self.owe();
         self.give_last()
     }
 
-    /// Moves the payload of a held buffer from the user to the end of ready.
+    /// VIDIOC_QBUF of a side. Settling comes after it.
+    ///
+    /// # Errors
+    /// Those of [`Queue::qbuf`].
     pub fn qbuf(
         &mut self,
         side: Side,
@@ -389,7 +422,12 @@ impl Pair {
         self.mark = None;
     }
 
-    /// Moves the front of done of a queue to the user.
+    /// VIDIOC_DQBUF of a side. The user who takes the final entry of CAPTURE's done list in phase Last stops
+    /// the pair; by a drain the mark is removed.
+    ///
+    /// # Errors
+    /// EINVAL where the queue does not stream, else on CAPTURE EPIPE in phase Stopped, else EAGAIN where no
+    /// buffer is done.
     pub fn dqbuf(&mut self, side: Side, hold: &mut Hold) -> Result<Reply, Errno>
         requires fit { FitsBoth self.old hold.old }
         ensures answer { result ≡ answer_of (dqbuf_refusal (queue_at self.old side) (is_ended_at self.old side)) (front_taken (queue_at self.old side).done) }
@@ -433,7 +471,9 @@ impl Pair {
         self.phase = Phase::Run;
     }
 
-    /// Ends streaming of a queue: its ready and done buffers are held again.
+    /// VIDIOC_STREAMOFF of a side, while no job runs: the user holds the ready and done buffers again. On OUTPUT
+    /// the mark is removed and a stop by a drain ends, and a stop by a change stays. On CAPTURE, where it
+    /// streamed, the phase is Run, and the mark is removed unless the pair stopped by a change.
     pub fn streamoff(&mut self, side: Side, hold: &mut Hold)
         requires idle { IsIdle self.old }
         requires fit { FitsBoth self.old hold.old }
@@ -456,7 +496,11 @@ impl Pair {
         }
     }
 
-    /// Drops all buffers of a queue, and makes new ones of one size, which the user holds.
+    /// VIDIOC_REQBUFS of a side: drops all buffers of the queue, and makes `count` new ones of `length` bytes,
+    /// 32 at most.
+    ///
+    /// # Errors
+    /// Those of [`Queue::reqbufs`].
     pub fn reqbufs(
         &mut self,
         alloc: Global,
@@ -478,7 +522,10 @@ impl Pair {
         }
     }
 
-    /// Adds new buffers of one size to a queue, which the user holds.
+    /// VIDIOC_CREATE_BUFS of a side: adds `count` buffers of `length` bytes, as far as there is room for 32.
+    ///
+    /// # Errors
+    /// Those of [`Queue::create`].
     pub fn create(
         &mut self,
         alloc: Global,
@@ -500,3 +547,6 @@ impl Pair {
         }
     }
 }
+
+#[cfg(test)]
+mod tests;

@@ -1,3 +1,4 @@
+use Rattle.vc_model.proofs.LineByLine.{lines_are_printed}
 use Rattle.vc_model.proofs.Honest.{scripts_are_honest}
 use Rattle.vc_model.proofs.Printing.{slots_print_their_own, same_events_same_lines, finishes_are_printed}
 use Rattle.vc_model.proofs.laws.scripts_print.Goals as goal
@@ -13,3 +14,6 @@ returns-clause-honest c = scripts_are_honest
 
 pub returns-clause-finishes : goal.returns-clause-finishes
 returns-clause-finishes c = finishes_are_printed
+
+pub returns-clause-lines : goal.returns-clause-lines
+returns-clause-lines c = lines_are_printed

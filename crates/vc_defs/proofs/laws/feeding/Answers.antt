@@ -1,0 +1,5 @@
+use Rattle.vc_defs.proofs.Feeding.{feeding}
+use Rattle.vc_defs.proofs.laws.feeding.Goals as goal
+
+pub returns : goal.returns
+returns c = feeding

@@ -1,0 +1,5 @@
+use Rattle.vc_defs.proofs.Waiting.{given_stays}
+use Rattle.vc_defs.proofs.laws.given_stays.Goals as goal
+
+pub returns : goal.returns
+returns c = given_stays

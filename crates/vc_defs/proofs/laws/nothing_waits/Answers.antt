@@ -1,0 +1,5 @@
+use Rattle.vc_defs.proofs.Waiting.{nothing_waits}
+use Rattle.vc_defs.proofs.laws.nothing_waits.Goals as goal
+
+pub returns : goal.returns
+returns c = nothing_waits

@@ -1,0 +1,5 @@
+use Rattle.vc_defs.proofs.Resuming.{resuming}
+use Rattle.vc_defs.proofs.laws.resuming.Goals as goal
+
+pub returns : goal.returns
+returns c = resuming

@@ -1,0 +1,5 @@
+use Rattle.vc_model.proofs.Holding.{held_by_calls}
+use Rattle.vc_model.proofs.laws.held_by_calls.Goals as goal
+
+pub returns : goal.returns
+returns c = held_by_calls

@@ -1,0 +1,5 @@
+use Rattle.vc_model.proofs.LineByLine.{replay_finds_right}
+use Rattle.vc_model.proofs.laws.replay_finds_right.Goals as goal
+
+pub returns : goal.returns
+returns c = replay_finds_right
