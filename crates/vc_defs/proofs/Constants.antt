@@ -56,7 +56,7 @@ unfolding rank
 scan_goes_by_diagonals = (scan_place_of_number, λ k h. by_rank (scan_place k) (scan_place (k + 1)) (scan_inside k) (scan_inside (k + 1)) (scan_ascends k h))
   where
     by_rank : (here next : ℕ) → here < 64 → next < 64 → rank here < rank next → (diagonal_of here < diagonal_of next) ⊎ ((diagonal_of here ≡ diagonal_of next) × (here / 8 < next / 8))
-    by_rank here next a b h = elim (cases_lt (diagonal_of here) (diagonal_of next)) [ | inl d ↦ inl d | inr d ↦ inr (omega arith, omega arith) ]
+    by_rank here next a b h = elim (cases_lt (diagonal_of here) (diagonal_of next)) [ inl d ↦ inl d | inr d ↦ inr (omega arith, omega arith) ]
 
 -- ones in all places of an I block, and of a P block, shifted to the left
 ones_of_intra : dequantised (replicate 64 (pos 1)) true

@@ -50,7 +50,7 @@ nothing_waits limit g bytes given next later e known =
     behind_other (Picture g key planes) r c n k = omega (arith, n, k, known)
 
     behind_change : (kind : ResultKind) (r : FrameResult) → IsNext kind next.result.position next.result.known r → r.known ≤ length bytes → (r.kind ≡ Damaged) × (r.known ≡ length bytes)
-    behind_change (Changed g) r n k = elim n.2 [ | inl h ↦ absurd (omega (arith, h, k, known)) | inr h ↦ (h.1, omega (arith, h.0, known)) ]
+    behind_change (Changed g) r n k = elim n.2 [ inl h ↦ absurd (omega (arith, h, k, known)) | inr h ↦ (h.1, omega (arith, h.0, known)) ]
     behind_change Damaged r n k = absurd (omega (arith, n, k, known))
     behind_change (Picture g key planes) r n k = absurd (omega (arith, n, k, known))
 

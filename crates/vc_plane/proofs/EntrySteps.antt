@@ -98,3 +98,6 @@ pub entry_is : (bytes : List ℕ) (at : ℕ) (frame : Bool) (left w : ℕ) (inte
     IsEntryRead bytes at frame left inter repeats q end
 entry_is bytes at frame left w inter repeats q end i r e =
     subst (λ (x : Bool). IsEntryRead bytes at frame left x repeats q end) (sym i) (subst (λ (n : ℕ). IsEntryRead bytes at frame left (inter_of w) n q end) (sym r) e)
+
+pub small_bytes : (bytes : List ℕ) → ((i : ℕ) → get_or bytes i 0 < 256) → AreBytes bytes
+small_bytes bytes h = All-from_get_or (λ b. b < 256) bytes 0 (λ i hi. h i)

@@ -2,3 +2,8 @@ pub mod EntrySteps
 pub mod Ranges
 pub mod Shown
 pub mod Parsed
+pub mod RawSamples
+pub mod Sums
+pub mod WritingSteps
+pub mod Coded
+pub mod WrittenPlanes

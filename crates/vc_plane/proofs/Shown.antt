@@ -141,3 +141,25 @@ all_decoded blocks old new width height w long done =
     let inside : block_number width j < block_count width height = number_inside width height j w hj in
     done.decoded j hj inside
     ∙ ap (λ t. get_or t (place_in_block width j) 0) (sym (entry_of_blocks (λ number. samples_of (get_or blocks number (block_with false [])) (block_of old width height number)) (block_count width height) (block_number width j) inside)))
+
+-- The next block of a plane is decoded.
+pub next_decoded : (blocks : List Block) (old now new : List ℕ) (width height next : ℕ) (y values : List ℤ) (inter : Bool) → 0 < width → 0 < height → next < block_count width height → get_or blocks next (block_with false []) ≡ block_with inter values →
+    AreDecoded blocks old now width height next → AreShown now new width height next (next + 1) y inter → y ≡ transformed (dequantised values (not inter)) → AreDecoded blocks old new width height (next + 1)
+next_decoded blocks old now new width height next y values inter w h inside block so_far shown is =
+    record {
+      decoded = λ j hj p. by_place j hj p (cases_eq (block_number width j) next);
+      behind = λ j p. shown.behind j p ∙ so_far.behind j (omega arith);
+    }
+  where
+    same : block_of now width height next ≡ block_of old width height next
+    same = block_of_same now old width height next w h inside (λ i e. so_far.behind i (omega arith))
+
+    by_place : (j : ℕ) → j < width * height → block_number width j < next + 1 → (block_number width j ≡ next) ⊎ (block_number width j ≡ next → ⊥) →
+        get_or new j 0 ≡ get_or (samples_of (get_or blocks (block_number width j) (block_with false [])) (block_of old width height (block_number width j))) (place_in_block width j) 0
+    by_place j hj p (inl e) =
+        shown.shown j hj (omega arith) p
+        ∙ ap (λ n. get_or (samples_from y inter (block_of now width height n)) (place_in_block width j) 0) e
+        ∙ ap (λ t. get_or t (place_in_block width j) 0) (ap (λ r. samples_from y inter r) same ∙ shown_is y values inter (block_of old width height next) is)
+        ∙ ap (λ b. get_or (samples_of b (block_of old width height next)) (place_in_block width j) 0) (sym block)
+        ∙ ap (λ n. get_or (samples_of (get_or blocks n (block_with false [])) (block_of old width height n)) (place_in_block width j) 0) (sym e)
+    by_place j hj p (inr ne) = let lt : block_number width j < next = omega arith in shown.before j lt ∙ so_far.decoded j hj lt

@@ -1,3 +1,4 @@
 pub mod Samples
 pub mod Entries
 pub mod Reading
+pub mod Writing

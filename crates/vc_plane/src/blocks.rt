@@ -14,7 +14,7 @@ use vc_fwht::Transform;
 use vc_quant::dequantise;
 
 /// What a sample is coded as a difference from.
-fn base(inter: bool, reference: &[u8; 64], k: usize) -> i32
+pub(crate) fn base(inter: bool, reference: &[u8; 64], k: usize) -> i32
     requires { k < 64 }
     ensures value { result ≡ base_of inter reference.now k }
     ensures least { pos 0 ≤ℤ result }
@@ -62,7 +62,14 @@ pub(crate) fn restored<T: Transform>(t: &T, q: &[i32; 64], inter: bool) -> [i32;
 
 /// Shows some blocks of a plane that have one inverse transform, each over the block of the reference that it
 /// replaces.
-pub(crate) fn show_blocks(y: &[i32; 64], shape: &Shape, inter: bool, reference: &mut [u8], from: usize, to: usize)
+pub(crate) fn show_blocks(
+    y: &[i32; 64],
+    shape: &Shape,
+    inter: bool,
+    reference: &mut [u8],
+    from: usize,
+    to: usize,
+)
     requires size { length reference.old ≡ shape.now.width * shape.now.height }
     requires some { (0 < shape.now.width) × (0 < shape.now.height) }
     requires range { AllBetween (neg_ℤ (pos 134217728)) (pos 134217728) y.now }

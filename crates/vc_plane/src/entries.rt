@@ -46,7 +46,9 @@ pub(crate) fn head(inter: bool, repeats: usize) -> u16
 fn is_legal_head(frame: bool, left: usize, word: u16) -> bool
     ensures { result ≡ is_head frame left word }
 {
-    word == head(is_inter(word), repeats(word)) && repeats(word) < left && (frame || !is_inter(word))
+    word == head(is_inter(word), repeats(word))
+        && repeats(word) < left
+        && (frame || !is_inter(word))
 }
 
 /// The word at `at`.
@@ -62,7 +64,13 @@ fn word_at(bytes: &[u8], at: usize) -> Result<u16, Damaged>
 }
 
 /// Reads an entry from `at` on, where so many blocks are left, and gives the values of its block.
-pub(crate) fn read_entry(bytes: &[u8], at: usize, frame: bool, left: usize, q: &mut [i32; 64]) -> Result<EntryRead, Damaged>
+pub(crate) fn read_entry(
+    bytes: &[u8],
+    at: usize,
+    frame: bool,
+    left: usize,
+    q: &mut [i32; 64],
+) -> Result<EntryRead, Damaged>
     requires place { at ≤ length bytes.now }
     requires left { 0 < left }
     ensures ok { IfOk result (λ e. IsEntryRead bytes.now at frame left e.inter e.repeats q.new e.end) }

@@ -18,6 +18,7 @@ use Rattle.vc_model.proofs.Isolating.{isolated, is_there}
 use Rattle.vc_model.proofs.Fitting.{always_sound}
 use Rattle.vc_model.proofs.Listing.{exact_list, front_waits}
 use Rattle.vc_model.proofs.Seating.{jobs_are_held}
+use Rattle.vc_top.specs.Desks.{HasData}
 use Rattle.vc_top.proofs.KeepingJobs.{IsBusy, SameJob, KeepsJob, keeps, answer_keeps}
 
 -- the context has the data of the running job
@@ -58,11 +59,6 @@ sound_busy c r e s =
 pub slot_sound : (coder : Coder) (n : ℕ) (history : List DeviceEvent) (k : ℕ) → IsSoundSlot (slot_of (device_after coder (new_device n) history) k)
 slot_sound coder n history k =
     subst IsSoundSlot (sym (isolated coder n k history).slot) (always_sound coder (projection coder (new_device n) history k))
-
--- The worker has the job of slot k, with these data.
-pub record HasData (d : DeviceState) (worker k : ℕ) (j : JobData) : Type 0 where
-  pub of_slot : job_of d worker ≡ Some k
-  pub data_there : job_in (slot_of d k) ≡ Some j
 
 -- what is known of the device before a step
 record Known (d : DeviceState) : Type 0 where
@@ -174,3 +170,45 @@ step_keeps coder d worker k j shut other x h = record { of_slot = h.of_slot; dat
 pub data_stays : (coder : Coder) (n : ℕ) (history : List DeviceEvent) (worker k : ℕ) (j : JobData) (e : DeviceEvent) → IsOther worker e → HasData (device_after coder (new_device n) history) worker k j → HasData (device_step coder (device_after coder (new_device n) history) e).device worker k j
 data_stays coder n history worker k j e other h =
     step_keeps coder (device_after coder (new_device n) history) worker k j e other (known coder n history) h
+
+-- the other workers have what they had
+front_worker : (d : DeviceState) (worker other i : ℕ) (rest : List ℕ) (s : Slot) → (worker ≡ other → ⊥) → job_of (claim_slot (record d { waiting = rest }) other i s).device worker ≡ job_of d worker
+unfolding with_slot
+front_worker d worker other i rest None differs = refl
+front_worker d worker other i rest (Some c) differs = get_or-set_other d.workers other worker (Some i) None differs
+
+first_worker : (d : DeviceState) (worker other : ℕ) (waiting : List ℕ) → (worker ≡ other → ⊥) → job_of (claim_first d other waiting).device worker ≡ job_of d worker
+first_worker d worker other [] differs = refl
+first_worker d worker other (i ∷ rest) differs = front_worker d worker other i rest (slot_of d i) differs
+
+claim_worker : (d : DeviceState) (worker other : ℕ) (a b : Bool) → (worker ≡ other → ⊥) → job_of (cond a (cond b (claim_first d other d.waiting) (ignored d)) (ignored d)).device worker ≡ job_of d worker
+claim_worker d worker other true true differs = first_worker d worker other d.waiting differs
+claim_worker d worker other true false differs = refl
+claim_worker d worker other false b differs = refl
+
+job_worker : (coder : Coder) (d : DeviceState) (worker other i : ℕ) (c : Context) (o : Option Running) (fault : Bool) → (worker ≡ other → ⊥) → job_of (finish_job coder d other i c o fault).device worker ≡ job_of d worker
+unfolding with_slot
+job_worker coder d worker other i c None fault differs = refl
+job_worker coder d worker other i c (Some r) fault differs = get_or-set_other d.workers other worker None None differs
+
+ended_worker : (coder : Coder) (d : DeviceState) (worker other i : ℕ) (s : Slot) (fault : Bool) → (worker ≡ other → ⊥) → job_of (finish_slot coder d other i s fault).device worker ≡ job_of d worker
+ended_worker coder d worker other i None fault differs = refl
+ended_worker coder d worker other i (Some c) fault differs = job_worker coder d worker other i c c.running fault differs
+
+finish_worker : (coder : Coder) (d : DeviceState) (worker other : ℕ) (o : Option ℕ) (fault : Bool) → (worker ≡ other → ⊥) → job_of (finish_of coder d other o fault).device worker ≡ job_of d worker
+finish_worker coder d worker other None fault differs = refl
+finish_worker coder d worker other (Some i) fault differs = ended_worker coder d worker other i (slot_of d i) fault differs
+
+call_worker : (d : DeviceState) (worker i : ℕ) (request : Call) (bytes : List ℕ) (found : Bool) (b : Bool) → job_of (cond b (call_answered d i (answer (slot_of d i) request bytes found)) (ignored d)).device worker ≡ job_of d worker
+unfolding with_slot
+call_worker d worker i request bytes found true = refl
+call_worker d worker i request bytes found false = refl
+
+pub worker_stays : (coder : Coder) (d : DeviceState) (worker : ℕ) (e : DeviceEvent) → IsOther worker e → job_of (device_step coder d e).device worker ≡ job_of d worker
+unfolding device_step
+worker_stays coder d worker (call i request bytes found) other =
+    call_worker d worker i request bytes found (ltb i (length d.slots))
+worker_stays coder d worker (claim w) other =
+    claim_worker d worker w (ltb w (length d.workers)) (is_none (job_of d w)) other
+worker_stays coder d worker (finish w fault) other = finish_worker coder d worker w (job_of d w) fault other
+worker_stays coder d worker shut other = refl

@@ -1,4 +1,5 @@
 pub mod Asking
+pub mod Desks
 pub mod Does
 pub mod Input
 pub mod Words

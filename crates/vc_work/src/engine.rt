@@ -10,9 +10,7 @@ use crate::work::Work;
 #[derive(Clone, Copy, Debug, PartialEq, Eq)]
 pub enum Outcome {
     /// So many bytes stand at the front of the destination.
-    Copied {
-        used: u32,
-    },
+    Copied { used: u32 },
 }
 
 /// The engine gave up. Nothing is known of the bytes of the work then.

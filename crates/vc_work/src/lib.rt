@@ -6,7 +6,6 @@
 #![tactic(auto)]
 
 mod engine;
-
 mod work;
 
 pub use engine::{Engine, EngineFault, Outcome};

@@ -1,0 +1,13 @@
+pub mod Decoding
+pub mod DoneNow
+pub mod Effects
+pub mod Encoding
+pub mod Halting
+pub mod Marks
+pub mod Outcomes
+pub mod Retiring
+pub mod Segmenting
+pub mod Standing
+pub mod Steps
+pub mod Tidy
+pub mod Wholes

@@ -1,0 +1,5 @@
+use Rattle.vc_laws.proofs.Wholes.{drains_are_whole}
+use Rattle.vc_laws.proofs.laws.drains_are_whole.Goals as goal
+
+pub returns : goal.returns
+returns c = drains_are_whole

@@ -1,0 +1,5 @@
+use Rattle.vc_laws.proofs.Marks.{drains_begin}
+use Rattle.vc_laws.proofs.laws.drains_begin_at_stop.Goals as goal
+
+pub returns : goal.returns
+returns c = drains_begin

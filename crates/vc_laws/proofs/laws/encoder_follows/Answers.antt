@@ -1,0 +1,5 @@
+use Rattle.vc_laws.proofs.Encoding.{encoder_follows}
+use Rattle.vc_laws.proofs.laws.encoder_follows.Goals as goal
+
+pub returns : goal.returns
+returns c = encoder_follows

@@ -1,0 +1,5 @@
+use Rattle.vc_laws.proofs.Outcomes.{follows}
+use Rattle.vc_laws.proofs.laws.follows.Goals as goal
+
+pub returns : goal.returns
+returns c = follows

@@ -1,0 +1,5 @@
+use Rattle.vc_laws.proofs.Outcomes.{frame_after_change}
+use Rattle.vc_laws.proofs.laws.frame_after_change.Goals as goal
+
+pub returns : goal.returns
+returns c = frame_after_change

@@ -1,0 +1,5 @@
+use Rattle.vc_laws.proofs.Marks.{marks_stay}
+use Rattle.vc_laws.proofs.laws.marks_stay.Goals as goal
+
+pub returns : goal.returns
+returns c = marks_stay

@@ -1,0 +1,5 @@
+use Rattle.vc_laws.proofs.Outcomes.{same_drains}
+use Rattle.vc_laws.proofs.laws.same_drains.Goals as goal
+
+pub returns : goal.returns
+returns c = same_drains

@@ -1,0 +1,5 @@
+use Rattle.vc_laws.proofs.Outcomes.{segments_begin}
+use Rattle.vc_laws.proofs.laws.segments_begin.Goals as goal
+
+pub returns : goal.returns
+returns c = segments_begin

@@ -1,0 +1,4 @@
+pub mod Drains
+pub mod Following
+pub mod SegmentRows
+pub mod Segments

@@ -1,0 +1,76 @@
+use Rattle.std.proofs.Common.{◌≡◌, ◌∙◌, sym, ap, subst, ℕ, ◌<◌, ◌≤◌, ◌+◌, List, [], length, get_or, arith}
+use Rattle.std.specs.Prelude.{false}
+use Rattle.vc_defs.specs.Planes.{Block, block_count, coded_blocks, decoded_plane}
+use Rattle.vc_plane.specs.Entries.{block_with}
+use Rattle.vc_plane.specs.Writing.{IsBlockAdded}
+use Rattle.vc_plane.proofs.Shown.{AreDecoded, none_decoded, all_decoded}
+use Rattle.vc_plane.proofs.Coded.{length-coded_blocks, block_coded, first_coded, more_coded, not_coded, all_coded, count_some, on_ok}
+use Rattle.vc_plane.proofs.writing.write_coded.Goals as goal
+
+pub loop-number-init : goal.loop-number-init
+loop-number-init g c =
+    let some : 0 < block_count c.args.shape.now.width c.args.shape.now.height = count_some c.args.shape.now.width c.args.shape.now.height c.requires.some.0 c.requires.some.1 in
+    record {
+      size = c.show_blocks.auto.reference ∙ c.requires.size;
+      end = c.block_count-number-end.ensures;
+      coded = first_coded (coded_blocks c.args.shape.now.inter c.args.shape.now.qp c.args.plane.now c.args.reference.now c.args.shape.now.width c.args.shape.now.height) c.args.reference.now c.show_blocks.new.reference c.args.shape.now.width c.args.shape.now.height c.args.out.now c.code_block-inter.result c.code_block-inter.new.q c.restored.result c.requires.some.0 c.requires.some.1 some
+          (omega (arith, some, length-coded_blocks c.args.shape.now.inter c.args.shape.now.qp c.args.plane.now c.args.reference.now c.args.shape.now.width c.args.shape.now.height)) c.code_block-inter.ensures.range
+          (block_coded c.args.shape.now.inter c.args.shape.now.qp c.args.plane.now c.args.reference.now c.args.reference.now c.args.shape.now.width c.args.shape.now.height 0 (block_with c.code_block-inter.result c.code_block-inter.new.q) [] c.requires.some.0 c.requires.some.1 some
+          (none_decoded [] c.args.reference.now c.args.shape.now.width c.args.shape.now.height) c.code_block-inter.ensures.coded)
+          c.show_blocks.ensures c.restored.ensures.is;
+    }
+
+pub add_block-requires-clause-place : goal.add_block-requires-clause-place
+add_block-requires-clause-place g c = c.loop-number.invariant.coded.inside
+
+pub add_block-requires-clause-values : goal.add_block-requires-clause-values
+add_block-requires-clause-values g c = c.loop-number.invariant.coded.values
+
+pub add_block-requires-clause-repeats : goal.add_block-requires-clause-repeats
+add_block-requires-clause-repeats g c = c.loop-number.invariant.coded.repeats
+
+pub loop-number-preserved : goal.loop-number-preserved
+loop-number-preserved g c =
+    let inside : c.loop-number.number < block_count c.args.shape.now.width c.args.shape.now.height = omega (arith, c.loop-number.invariant.end, c.loop-number-test.true) in
+    let so_far = c.loop-number.invariant.coded in
+    record {
+      size = c.show_blocks-in-loop-number.auto.reference ∙ c.loop-number.invariant.size;
+      end = c.loop-number.invariant.end;
+      coded = more_coded (coded_blocks c.args.shape.now.inter c.args.shape.now.qp c.args.plane.now c.args.reference.now c.args.shape.now.width c.args.shape.now.height) c.args.reference.now c.loop-number.reference c.show_blocks-in-loop-number.new.reference c.args.shape.now.width c.args.shape.now.height c.loop-number.number c.args.out.now c.loop-number.out c.add_block.new.out c.loop-number.pending c.add_block.new.pending
+          c.code_block-inter-in-loop-number.result c.code_block-inter-in-loop-number.new.q c.restored-in-loop-number.result c.requires.some.0 c.requires.some.1 inside (omega (arith, inside, length-coded_blocks c.args.shape.now.inter c.args.shape.now.qp c.args.plane.now c.args.reference.now c.args.shape.now.width c.args.shape.now.height)) c.code_block-inter-in-loop-number.ensures.range
+          (block_coded c.args.shape.now.inter c.args.shape.now.qp c.args.plane.now c.args.reference.now c.loop-number.reference c.args.shape.now.width c.args.shape.now.height c.loop-number.number (block_with c.code_block-inter-in-loop-number.result c.code_block-inter-in-loop-number.new.q)
+          (coded_blocks c.args.shape.now.inter c.args.shape.now.qp c.args.plane.now c.args.reference.now c.args.shape.now.width c.args.shape.now.height) c.requires.some.0 c.requires.some.1 inside so_far.decoded c.code_block-inter-in-loop-number.ensures.coded)
+          so_far c.in-Ok.ensures.ok c.show_blocks-in-loop-number.ensures c.restored-in-loop-number.ensures.is;
+    }
+
+pub returns-in-Err-clause-bytes : goal.returns-in-Err-clause-bytes
+returns-in-Err-clause-bytes g c =
+    let inside : c.loop-number.number < block_count c.args.shape.now.width c.args.shape.now.height = omega (arith, c.loop-number.invariant.end, c.loop-number-test.true) in
+    let so_far = c.loop-number.invariant.coded in
+    not_coded (coded_blocks c.args.shape.now.inter c.args.shape.now.qp c.args.plane.now c.args.reference.now c.args.shape.now.width c.args.shape.now.height) c.args.reference.now c.loop-number.reference c.args.shape.now.width c.args.shape.now.height c.loop-number.number c.args.out.now c.loop-number.out c.add_block.new.out c.loop-number.pending
+    c.code_block-inter-in-loop-number.result c.code_block-inter-in-loop-number.new.q c.in-Err.full (omega (arith, inside, length-coded_blocks c.args.shape.now.inter c.args.shape.now.qp c.args.plane.now c.args.reference.now c.args.shape.now.width c.args.shape.now.height))
+    (block_coded c.args.shape.now.inter c.args.shape.now.qp c.args.plane.now c.args.reference.now c.loop-number.reference c.args.shape.now.width c.args.shape.now.height c.loop-number.number (block_with c.code_block-inter-in-loop-number.result c.code_block-inter-in-loop-number.new.q)
+    (coded_blocks c.args.shape.now.inter c.args.shape.now.qp c.args.plane.now c.args.reference.now c.args.shape.now.width c.args.shape.now.height) c.requires.some.0 c.requires.some.1 inside so_far.decoded c.code_block-inter-in-loop-number.ensures.coded)
+    so_far c.in-Err.ensures.full
+
+pub put_entry-requires-clause-place : goal.put_entry-requires-clause-place
+put_entry-requires-clause-place g c = c.loop-number.invariant.coded.inside
+
+pub put_entry-requires-clause-values : goal.put_entry-requires-clause-values
+put_entry-requires-clause-values g c = c.loop-number.invariant.coded.values
+
+pub put_entry-requires-clause-repeats : goal.put_entry-requires-clause-repeats
+put_entry-requires-clause-repeats g c = c.loop-number.invariant.coded.repeats
+
+pub returns-clause-bytes : goal.returns-clause-bytes
+returns-clause-bytes g c =
+    all_coded (coded_blocks c.args.shape.now.inter c.args.shape.now.qp c.args.plane.now c.args.reference.now c.args.shape.now.width c.args.shape.now.height) c.args.reference.now c.loop-number.reference c.args.shape.now.width c.args.shape.now.height c.loop-number.number c.args.out.now c.loop-number.out c.put_entry.new.out c.loop-number.pending c.put_entry.result
+    (omega (arith, c.loop-number.invariant.end, c.loop-number-test.false, length-coded_blocks c.args.shape.now.inter c.args.shape.now.qp c.args.plane.now c.args.reference.now c.args.shape.now.width c.args.shape.now.height)) c.loop-number.invariant.coded c.put_entry.ensures
+
+pub returns-clause-samples : goal.returns-clause-samples
+returns-clause-samples g c =
+    let some : 0 < block_count c.args.shape.now.width c.args.shape.now.height = count_some c.args.shape.now.width c.args.shape.now.height c.requires.some.0 c.requires.some.1 in
+    let last : c.loop-number.number ≡ block_count c.args.shape.now.width c.args.shape.now.height = omega (arith, some, c.loop-number.invariant.end, c.loop-number-test.false, c.loop-number.auto.number-end, c.loop-number.auto.number) in
+    on_ok c.put_entry.result (c.loop-number.reference ≡ decoded_plane (coded_blocks c.args.shape.now.inter c.args.shape.now.qp c.args.plane.now c.args.reference.now c.args.shape.now.width c.args.shape.now.height) c.args.reference.now c.args.shape.now.width c.args.shape.now.height)
+    (all_decoded (coded_blocks c.args.shape.now.inter c.args.shape.now.qp c.args.plane.now c.args.reference.now c.args.shape.now.width c.args.shape.now.height) c.args.reference.now c.loop-number.reference c.args.shape.now.width c.args.shape.now.height c.requires.some.0 c.loop-number.invariant.size
+    (subst (λ (n : ℕ). AreDecoded (coded_blocks c.args.shape.now.inter c.args.shape.now.qp c.args.plane.now c.args.reference.now c.args.shape.now.width c.args.shape.now.height) c.args.reference.now c.loop-number.reference c.args.shape.now.width c.args.shape.now.height n) last c.loop-number.invariant.coded.decoded))
