@@ -4,6 +4,8 @@ pub mod Copying
 pub mod Cores
 pub mod Finishing
 pub mod Moving
+pub mod Refusing
 pub mod Running
 pub mod Slots
 pub mod Stepping
+pub mod There

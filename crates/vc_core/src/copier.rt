@@ -8,11 +8,14 @@ ghost use Rattle.vc_base.specs.declared.Kind.TheVariants.{Copy};
 ghost use Rattle.vc_base.specs.declared.Errno.TheVariants.{NoTty, Inval};
 ghost use Rattle.vc_base.specs.declared.Reply.TheVariants.{Done, Count, Created, Refused};
 ghost use Rattle.vc_base.specs.declared.Call.TheVariants.{ReqBufs, CreateBufs, QBuf, DqBuf, StreamOff};
-ghost use Rattle.vc_base.specs.Buffers.{querybuf_reply};
+ghost use Rattle.vc_base.specs.Buffers.{querybuf_reply, reqbufs_refusal, create_refusal};
+ghost use Rattle.std.specs.Option.{option_map};
+ghost use Rattle.vc_queue.specs.Growing.{cannot_grow};
 ghost use Rattle.vc_model.specs.Formats.{formats_for, formats_listed, clamp, size_or};
 ghost use Rattle.vc_model.specs.Context.{queue_of, fresh_context};
 ghost use Rattle.vc_model.specs.Answer.{desc_answer, format_answer, try_answer, set_refusal, set_answer, reqbufs_answer, create_answer, query_answer, qbuf_answer, dqbuf_answer, streamon_answer, streamoff_answer, context_answer, unchanged, readiness};
-ghost use Rattle.vc_model.specs.Core.{BroughtBack, finished_context, claimed_in};
+ghost use Rattle.vc_model.specs.Core.{BroughtBack, finished_context, claimed_in, unless_memory};
+ghost use Rattle.vc_core.specs.Steps.{TakesMemory};
 ghost use Rattle.vc_model.specs.Runs.{is_claimable, after_claim};
 ghost use Rattle.vc_model.specs.Standing.{without_job};
 ghost use Rattle.vc_core.specs.Contexts.{HasRoom, data_bytes, data_formats, Gives, GivesWithMemory, IsKept, IsStep, is_close, told_of, refused_or_blocked, taken_or_blocked, has_work};
@@ -32,6 +35,12 @@ const USUAL_SIZE: u32 = 4096;
 
 /// The greatest size of a buffer.
 const GREATEST_SIZE: u32 = 17694720;
+
+/// The length of the longest buffer.
+const LONGEST_BUFFER: u32 = 17694764;
+
+/// The most buffers of a queue.
+const MOST_BUFFERS: u32 = 32;
 
 /// The flag of a buffer that came back without its result.
 const ERROR: u32 = 0x40;
@@ -99,6 +108,33 @@ fn has_work(queue: &Queue) -> bool
     ensures { result ≡ has_work queue.now }
 {
     queue.is_streaming() && queue.front_ordinal().is_some()
+}
+
+/// What ReqBufs answers before memory is sought.
+fn reqbufs_refusal(queue: &Queue) -> Option<Reply>
+    ensures { result ≡ option_map Refused (reqbufs_refusal queue.now) }
+{
+    if queue.is_streaming() {
+        return Some(Reply::Refused { errno: Errno::Busy });
+    }
+    None
+}
+
+/// Whether a queue of so many buffers cannot get `count` more of that length.
+fn cannot_grow(buffers: u32, count: u32, length: u32) -> bool
+    ensures { result ≡ cannot_grow buffers count length }
+{
+    length < 1 || LONGEST_BUFFER < length || (0 < count && buffers == MOST_BUFFERS)
+}
+
+/// What CreateBufs answers before memory is sought.
+fn create_refusal(queue: &Queue, count: u32, length: u32) -> Option<Reply>
+    ensures { result ≡ option_map Refused (create_refusal queue.now count length) }
+{
+    if cannot_grow(queue.buffers(), count, length) {
+        return Some(nothing_such());
+    }
+    None
 }
 
 /// Whether a job is due: none runs, and both queues have work.
@@ -232,6 +268,29 @@ impl Copier {
             Call::Unsubscribe { .. } => nothing_such(),
             Call::GetCtrl { .. } => nothing_such(),
             Call::SetCtrl { .. } => nothing_such(),
+        }
+    }
+
+    /// What ReqBufs and CreateBufs answer before memory is sought.
+    pub(crate) fn refusal(&self, call: &Call) -> Option<Reply>
+        requires { TakesMemory call.now }
+        ensures { result ≡ unless_memory (context_answer self.now call.now [] false).reply }
+    {
+        let _ = &self.size;
+        match *call {
+            Call::ReqBufs { side, .. } => match side {
+                Side::Out => reqbufs_refusal(&self.out),
+                Side::Cap => reqbufs_refusal(&self.cap),
+            },
+            Call::CreateBufs {
+                side,
+                count,
+                length,
+            } => match side {
+                Side::Out => create_refusal(&self.out, count, length),
+                Side::Cap => create_refusal(&self.cap, count, length),
+            },
+            _ => Some(Reply::Refused { errno: Errno::Busy }),
         }
     }
 

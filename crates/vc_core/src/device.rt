@@ -1,11 +1,11 @@
 //! The device.
 
-ghost use Rattle.std.specs.Prelude.{◌≡◌, ◌<◌, ◌≤◌, ◌^◌, ℕ, length, IfOk, None, replicate};
+ghost use Rattle.std.specs.Prelude.{◌≡◌, ◌<◌, ◌≤◌, ◌+◌, ◌^◌, ℕ, length, IfOk, None, replicate};
 ghost use Rattle.vc_model.specs.Devices.{slot_of, job_of, steps_of};
-ghost use Rattle.vc_model.specs.Core.{BroughtBack, new_core, core_claim, core_finish, core_shut, claimed_job};
+ghost use Rattle.vc_model.specs.Core.{BroughtBack, new_core, core_claim, core_finish, core_shut, claimed_job, before_memory};
 ghost use Rattle.vc_core.specs.Jobs.{Brings, HasJob, IsClaim, IsOfWorker};
 ghost use Rattle.vc_core.specs.Payloads.{FitsSlot, Moves};
-ghost use Rattle.vc_core.specs.Steps.{IsCall};
+ghost use Rattle.vc_core.specs.Steps.{IsCall, TakesMemory};
 
 use crate::job::{Finished, Job};
 use crate::slot::Slot;
@@ -95,6 +95,9 @@ impl Core {
         ensures step { IsCall self.old slot call.now hold.old result self.new }
         ensures payloads { Moves (slot_of self.old slot) call.now result hold.old hold.new }
         ensures fit { FitsSlot (slot_of self.new slot) hold.new }
+        ensures size { length self.new.slots ≡ length self.old.slots }
+        ensures crew { self.new.workers ≡ self.old.workers }
+        ensures steps { self.new.steps ≡ self.old.steps + steps_of result }
     {
         let context = &mut self.slots[slot as usize];
         let reply = context.answer(self.alloc, call, hold);
@@ -111,6 +114,9 @@ impl Core {
         requires counts { self.old.steps < 2 ^ 62 }
         ensures step { self.new ≡ (core_claim self.old worker).device }
         ensures job { IsClaim self.old.waiting (claimed_job self.old) result }
+        ensures size { length self.new.slots ≡ length self.old.slots }
+        ensures crew { length self.new.workers ≡ length self.old.workers }
+        ensures steps { self.new.steps ≤ self.old.steps + 1 }
     {
         let slot = self.list.take_front()?;
         let context = &mut self.slots[slot as usize];
@@ -125,7 +131,10 @@ impl Core {
         requires worker { worker < length self.old.workers }
         requires job { IsOfWorker self.old worker finished }
         requires counts { self.old.steps < 2 ^ 62 }
-        ensures { (k : ℕ) (back : BroughtBack) → HasJob self.old worker k back.job → Brings k back finished → self.new ≡ (core_finish self.old worker back).device }
+        ensures step { (k : ℕ) (back : BroughtBack) → HasJob self.old worker k back.job → Brings k back finished → self.new ≡ (core_finish self.old worker back).device }
+        ensures size { length self.new.slots ≡ length self.old.slots }
+        ensures crew { length self.new.workers ≡ length self.old.workers }
+        ensures steps { self.new.steps ≡ self.old.steps + 1 }
     {
         let Some(slot) = self.workers[worker as usize] else {
             unreachable!()
@@ -159,5 +168,16 @@ impl Core {
         ensures { result ≡ self.now.is_shut }
     {
         self.shut
+    }
+
+    /// What Open, ReqBufs or CreateBufs answers before memory is sought: the reply of the first test that
+    /// applies, or none where all pass.
+    pub fn refusal(&self, slot: u32, call: &Call) -> Option<Reply>
+        requires slot { slot < length self.now.slots }
+        requires memory { TakesMemory call.now }
+        ensures { result ≡ before_memory (slot_of self.now slot) call.now }
+    {
+        let context = &self.slots[slot as usize];
+        context.refusal(call)
     }
 }

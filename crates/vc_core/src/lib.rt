@@ -10,6 +10,7 @@
 mod copier;
 mod device;
 mod job;
+pub mod laws;
 mod slot;
 
 pub use device::Core;

@@ -4,7 +4,9 @@ ghost use Rattle.std.specs.Prelude.{◌≡◌, ℕ, true, false, Some, None, Lis
 ghost use Rattle.vc_base.specs.declared.Reply.TheVariants.{Refused};
 ghost use Rattle.vc_base.specs.declared.Errno.TheVariants.{NoMem};
 ghost use Rattle.vc_base.specs.declared.Call.TheVariants.{Open, Close};
-ghost use Rattle.vc_model.specs.Core.{BroughtBack, claimed_in};
+ghost use Rattle.vc_model.specs.Core.{BroughtBack, claimed_in, before_memory, unless_memory};
+ghost use Rattle.vc_model.specs.Answer.{closed_answer};
+ghost use Rattle.vc_core.specs.Steps.{TakesMemory};
 ghost use Rattle.vc_model.specs.Runs.{is_claimable};
 ghost use Rattle.vc_model.specs.Context.{fresh_context};
 ghost use Rattle.vc_core.specs.Contexts.{IsKeptSlot, IsStepOfSlot, SlotHasRoom, IsAnswer, opened_kind, is_close, claimed_slot, finished_slot};
@@ -55,6 +57,18 @@ fn is_close(call: &Call) -> bool
     ensures { result ≡ is_close call.now }
 {
     matches!(call, Call::Close)
+}
+
+/// What a closed slot answers before memory is sought.
+fn closed_refusal(call: &Call) -> Option<Reply>
+    ensures { result ≡ unless_memory (closed_answer call.now false).reply }
+{
+    match opened_kind(call) {
+        Some(_) => None,
+        None => Some(Reply::Refused {
+            errno: Errno::NoTty,
+        }),
+    }
 }
 
 /// The reply where no memory is found.
@@ -152,6 +166,17 @@ impl Slot {
         *self = Slot::new();
         *hold = Hold::new();
         Reply::Done
+    }
+
+    /// What Open, ReqBufs or CreateBufs answers before memory is sought.
+    pub(crate) fn refusal(&self, call: &Call) -> Option<Reply>
+        requires { TakesMemory call.now }
+        ensures { result ≡ before_memory self.now call.now }
+    {
+        match &self.content {
+            Content::Closed => closed_refusal(call),
+            Content::Copying(copier) => copier.refusal(call),
+        }
     }
 
     /// Whether a job of the slot can be claimed.

@@ -16,4 +16,4 @@ returns-clause-answers c =
 
 pub returns-clause-fit : goal.returns-clause-fit
 returns-clause-fit c =
-    rw (c.new-2.view_is, c.new.ensures, c.new-3.ensures) nothing_held
+    rw (c.new-2.view_is, c.new.ensures, c.new-3.ensures.places) nothing_held
