@@ -1,0 +1,16 @@
+use Rattle.std.proofs.Common.{◌≡◌, [], false, Option, subst}
+use Rattle.vc_base.specs.declared.Reply.{Reply}
+use Rattle.vc_model.specs.Context.{Context}
+use Rattle.vc_model.specs.Answer.{context_answer}
+use Rattle.vc_model.specs.Core.{unless_memory}
+use Rattle.vc_core.proofs.Refusing.{slot_closed, slot_open}
+use Rattle.vc_core.proofs.Slots.{closed_view, copying_view}
+use Rattle.vc_core.proofs.slot.Slot.refusal.Goals as goal
+
+pub returns-in-Closed : goal.returns-in-Closed
+returns-in-Closed c =
+    slot_closed c.args.self.now c.args.call.now c.closed_refusal.result (closed_view c.self.inside.content c.args.self.now c.self.view_is c.in-Closed.is) c.closed_refusal.ensures
+
+pub returns-in-Copying : goal.returns-in-Copying
+returns-in-Copying c =
+    slot_open c.args.self.now c.in-Copying.copier.value c.args.call.now c.refusal.result (copying_view c.self.inside.content c.args.self.now c.in-Copying.copier c.self.view_is c.in-Copying.is) (subst (λ (x : Context). c.refusal.result ≡ unless_memory (context_answer x c.args.call.now [] false).reply) c.deref.ensures c.refusal.ensures)
