@@ -10,7 +10,7 @@ use Rattle.vc_base.specs.declared.Errno.TheVariants.{Inval}
 use Rattle.vc_base.specs.declared.Reply.TheVariants.{Done}
 use Rattle.vc_base.specs.declared.Call.{Call}
 use Rattle.vc_base.specs.declared.Call.TheVariants.{Open, Close, EnumFmt, GetFmt, TryFmt, SetFmt, ReqBufs, CreateBufs, QueryBuf, QBuf, DqBuf, StreamOn, StreamOff, Subscribe, Unsubscribe, DqEvent, DecCmd, EncCmd, GetCtrl, SetCtrl, Poll}
-use Rattle.vc_base.specs.Buffers.{Buffer, QueueState, buffers, buffer_count, is_out, with_index, held_refusal, refuse_if, queue_held, queued_buffer, retire_after, lend_after, last_flag, zero_stamp}
+use Rattle.vc_base.specs.Buffers.{Buffer, QueueState, buffers, buffer_count, new_queue, is_out, with_index, held_refusal, refuse_if, queue_held, queued_buffer, retire_after, lend_after, last_flag, zero_stamp}
 use Rattle.vc_model.specs.Coder.{Coder, the_coder}
 use Rattle.vc_model.specs.Context.{Context, Slot, Running, RunSort, copy, encode, decode, probe, Cause, drain, change, PhaseState, run, owe, last, stopped, is_run, is_drained, settle, settle_drain, settle_last, give_last, raise_end, sizeimage, with_queue}
 use Rattle.vc_model.specs.Answer.{Answer, refused, answered, unless, is_part_of_picture, qbuf_answer, context_answer, answer}
@@ -136,7 +136,7 @@ unfolding SameSizes
 fits_same q h new s f i l = s q.side i ∙ f i l
 
 slot_same : (s : Slot) (h new : HoldState) → SameSizes h new → FitsSlot s h → FitsSlot s new
-slot_same None h new s f = record { out = fits_same _ h new s f.out; cap = fits_same _ h new s f.cap }
+slot_same None h new s f = record { out = fits_same (new_queue Out) h new s f.out; cap = fits_same (new_queue Cap) h new s f.cap }
 slot_same (Some c) h new s f = record { out = fits_same c.out h new s f.out; cap = fits_same c.cap h new s f.cap }
 
 same_sizes : (h : HoldState) → SameSizes h h
@@ -174,11 +174,11 @@ filled_fits s request bytes hold f = slot_same s hold (filled request bytes hold
 
 found_counts : (bs : List Buffer) (i : ℕ) (b : Buffer) → with_index i bs ≡ Some b → 1 ≤ count_index bs i
 found_counts [] i b e = absurd (cc)
-found_counts (x ∷ bs) i b e = split (x.index == i) e
+found_counts (x ∷ bs) i b e = split (x.index == i) (found_counts bs i b) e
   where
-    split : (t : Bool) → cond t (Some x) (with_index i bs) ≡ Some b → 1 ≤ cond t 1 0 + count_index bs i
-    split true p = omega arith
-    split false p = let h = found_counts bs i b p in omega arith
+    split : (t : Bool) → (with_index i bs ≡ Some b → 1 ≤ count_index bs i) → cond t (Some x) (with_index i bs) ≡ Some b → 1 ≤ cond t 1 0 + count_index bs i
+    split true h p = omega arith
+    split false h p = let l = h p in omega (arith, l)
 
 below : (n i count : ℕ) → n ≡ cond (nat_lt i count) 1 0 → 1 ≤ n → i < count
 below n i count e h = split (nat_lt i count) refl e

@@ -1,8 +1,11 @@
 mod Carrying
 mod DeviceJobs
 mod Feeds
+mod Grammar
 mod Holding
 mod KeepingJobs
 mod LineTexts
+mod Made
+mod SoFar
 mod Transitions
 mod Reading

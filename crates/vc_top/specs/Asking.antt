@@ -1,12 +1,13 @@
 -- What the lines of a script ask for, as far as the device is built.
-use Rattle.std.specs.Prelude.{ℕ, Bool, true, false, if◌then◌else◌, Option, Some, None, List, [], ◌∷◌}
+use Rattle.std.specs.Prelude.{ℕ, ◌<◌, Bool, true, false, if◌then◌else◌, Option, Some, None, List, [], ◌∷◌}
+use Rattle.std.specs.Option.{option_map}
 use Rattle.vc_base.specs.declared.Kind.TheVariants.{Copy, Enc, Dec}
 use Rattle.vc_base.specs.declared.Call.{Call}
 use Rattle.vc_base.specs.declared.Call.TheVariants.{Open}
 use Rattle.vc_script.specs.declared.line.Line.{Line}
 use Rattle.vc_script.specs.declared.line.Line.TheVariants as lines
 use Rattle.vc_script.specs.Lines.{line_of}
-use Rattle.vc_model.specs.Script.{Asked, AsksNothing, AsksCall, AsksClaim, AsksFinish, AsksRun}
+use Rattle.vc_model.specs.Script.{Asked, AsksNothing, AsksCall, AsksClaim, AsksFinish, AsksRun, HasUsedBytes}
 
 -- Contexts that encode and decode aren't built yet: a line that opens one is bad.
 abbrev pub is_built_call : Call → Bool
@@ -27,13 +28,14 @@ asked_of (Some (lines.Claim worker)) = AsksClaim worker
 asked_of (Some (lines.Finish worker)) = AsksFinish worker
 asked_of (Some (lines.Run worker)) = AsksRun worker
 
-abbrev pub if_built : Option (Option Line) → Option Asked
-if_built None = None
-if_built (Some line) = if is_built line then Some (asked_of line) else None
+-- a line that the device has, and none else
+abbrev pub only_built : Option (Option Line) → Option (Option Line)
+only_built None = None
+only_built (Some line) = if is_built line then Some line else None
 
 -- what a line asks for, among so many slots; none where the line is bad
 abbrev pub asks_line : ℕ → List ℕ → Option Asked
-asks_line slots line = if_built (line_of slots line)
+asks_line slots line = option_map asked_of (only_built (line_of slots line))
 
 abbrev pub with_rest : Option Asked → Option (List Asked) → Option (List Asked)
 with_rest None rest = None
@@ -44,3 +46,11 @@ with_rest (Some asked) (Some rest) = Some (asked ∷ rest)
 abbrev pub asks_lines : ℕ → List (List ℕ) → Option (List Asked)
 asks_lines slots [] = Some []
 asks_lines slots (line ∷ rest) = with_rest (asks_line slots line) (asks_lines slots rest)
+
+-- what a line may ask for among n slots
+abbrev pub IsAskedLine : ℕ → Option Line → Type 0
+IsAskedLine n None = Unit {0}
+IsAskedLine n (Some (lines.Call slot request bytes)) = (slot < n) × HasUsedBytes request bytes
+IsAskedLine n (Some (lines.Claim worker)) = worker < 16
+IsAskedLine n (Some (lines.Finish worker)) = worker < 16
+IsAskedLine n (Some (lines.Run worker)) = worker < 16

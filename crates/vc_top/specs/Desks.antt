@@ -14,8 +14,9 @@ use Rattle.vc_model.specs.Solo.{Answered, Claimed, Finished}
 use Rattle.vc_model.specs.Devices.{DeviceState, Told, NoJob, new_device, slot_of, job_of, device_step, device_after}
 use Rattle.vc_model.specs.Standing.{CoreState, Stands, job_in}
 use Rattle.vc_queue.specs.Holds.{HoldState, held_payload, with_payload, written_over}
+use Rattle.vc_queue.specs.Cells.{bytes_or_none}
 use Rattle.vc_core.specs.Payloads.{FitsSlot, empty_hold}
-use Rattle.vc_core.specs.Jobs.{IsJobOf}
+use Rattle.vc_core.specs.Jobs.{IsJobOf, Tells}
 use Rattle.vc_core.specs.declared.job.Job.{Job}
 use Rattle.vc_script.specs.Texts.{claim_text, no_claim_text, busy_text, finish_text, idle_text}
 use Rattle.vc_top.specs.declared.desk.Desk.{Desk}
@@ -63,9 +64,19 @@ abbrev pub filled : Call → List ℕ → HoldState → HoldState
 filled (QBuf Out index used stamp) bytes hold = filled_at hold index bytes
 filled request bytes hold = hold
 
+-- the payload of the buffer that was taken from CAPTURE, and no bytes after any other reply
+abbrev pub taken_payload : Call → Reply → HoldState → List ℕ
+taken_payload (DqBuf Cap block) (Taken index used flags seq stamp) hold = bytes_or_none (held_payload hold Cap index)
+taken_payload request reply hold = []
+
+-- whether the payload has the bytes that a reply tells
+abbrev pub has_bytes : Call → Reply → List ℕ → Bool
+has_bytes (DqBuf Cap block) (Taken index used flags seq stamp) payload = nat_le used (length payload)
+has_bytes request reply payload = true
+
 -- the first bytes of the payload that was taken from CAPTURE are those that the device handed out
 abbrev pub front_is : ℕ → List ℕ → Option (List ℕ) → Type 0
-front_is used handed None = ⊥
+front_is used handed None = Unit {0}
 front_is used handed (Some payload) = take used payload ≡ handed
 
 abbrev pub IsTaken : Call → Reply → List ℕ → HoldState → Type 0
@@ -88,7 +99,21 @@ pub data ClaimDone (n : ℕ) (history : List DeviceEvent) (worker : ℕ) (desk :
   was_empty : job_of (after n history) worker ≡ None → (after n history).waiting ≡ [] → (device_step the_coder (after n history) (claim worker)).reply ≡ NoJob → IsDesk n (history ++ claim worker ∷ []) desk → ClaimDone n history worker desk false no_claim_text
   took : (k : ℕ) (rest : List ℕ) → job_of (after n history) worker ≡ None → (after n history).waiting ≡ k ∷ rest → (device_step the_coder (after n history) (claim worker)).reply ≡ Told k Claimed → IsDesk n (history ++ claim worker ∷ []) desk → job_of (after n (history ++ claim worker ∷ [])) worker ≡ Some k → ClaimDone n history worker desk true (claim_text k)
 
--- What a finish came to, and its text: the worker has no job, or its job ended with a fault or without.
-pub data FinishDone (n : ℕ) (history : List DeviceEvent) (worker : ℕ) (desk : Desk) : Bool → List ℕ → Type 0 where
-  was_idle : job_of (after n history) worker ≡ None → IsDesk n history desk → FinishDone n history worker desk false idle_text
-  ended : (k i : ℕ) (j : JobData) (fault : Bool) → job_of (after n history) worker ≡ Some i → (device_step the_coder (after n history) (finish worker fault)).reply ≡ Told k (Finished (finish_word the_coder j fault)) → IsDesk n (history ++ finish worker fault ∷ []) desk → FinishDone n history worker desk fault (finish_text k (finish_word the_coder j fault))
+-- What a finish came to, and its text: the worker has no job, or its job ended with a fault or without, which the engine counts.
+pub data FinishDone (n : ℕ) (history : List DeviceEvent) (worker : ℕ) (desk : Desk) (runs runs' faults faults' : ℕ) : Bool → List ℕ → Type 0 where
+  was_idle : job_of (after n history) worker ≡ None → IsDesk n history desk → runs ≤ runs' → faults ≤ faults' → FinishDone n history worker desk runs runs' faults faults' false idle_text
+  ended : (k i : ℕ) (j : JobData) (fault : Bool) → job_of (after n history) worker ≡ Some i → (device_step the_coder (after n history) (finish worker fault)).reply ≡ Told k (Finished (finish_word the_coder j fault)) → IsDesk n (history ++ finish worker fault ∷ []) desk → Tells fault runs runs' faults faults' → FinishDone n history worker desk runs runs' faults faults' fault (finish_text k (finish_word the_coder j fault))
+
+-- some slots and some history
+abbrev pub IsSomeDesk : Desk → Type 0
+IsSomeDesk desk = (n : ℕ) × (history : List DeviceEvent) × IsDesk n history desk
+
+-- the text was appended, and the claim came to this
+abbrev pub ClaimsWith : Desk → ℕ → List ℕ → List ℕ → Desk → Bool → Type 0
+ClaimsWith old worker before now new claimed =
+    (n : ℕ) (history : List DeviceEvent) → IsDesk n history old → (text : List ℕ) × (now ≡ before ++ text) × ClaimDone n history worker new claimed text
+
+-- the text was appended, and the finish came to this, which the engine counts
+abbrev pub FinishesWith : Desk → ℕ → List ℕ → List ℕ → Desk → ℕ → ℕ → ℕ → ℕ → Bool → Type 0
+FinishesWith old worker before now new runs runs' faults faults' fault =
+    (n : ℕ) (history : List DeviceEvent) → IsDesk n history old → (text : List ℕ) × (now ≡ before ++ text) × FinishDone n history worker new runs runs' faults faults' fault text

@@ -1,5 +1,16 @@
 //! Carries out the lines of a script, one after another.
 
+ghost use Rattle.std.specs.Prelude.{◌≡◌, ◌≢◌, ◌<◌, ◌≤◌, ◌+◌, ◌^◌, ◌||◌, ℕ, List, [], length, IfOk, IfErr, IsErrOf};
+ghost use Rattle.std.specs.Str.Lines.{lines};
+ghost use Rattle.vc_base.specs.Counts.{Rose};
+ghost use Rattle.vc_base.specs.Device.{DeviceEvent};
+ghost use Rattle.vc_script.specs.Lines.{line_of};
+ghost use Rattle.vc_script.specs.Payload.{Reads};
+ghost use Rattle.vc_top.specs.Asking.{is_built_call, is_built, only_built};
+ghost use Rattle.vc_top.specs.Desks.{IsDesk, IsSomeDesk};
+ghost use Rattle.vc_top.specs.Ends.{LinesEnd};
+ghost use Rattle.vc_top.specs.Steps.{LineDone, LineStopped, status_of, status_at_end};
+
 use crate::carry::carry_out;
 use crate::desk::Desk;
 use crate::status::Status;
@@ -18,14 +29,18 @@ pub(crate) enum LineStop {
 }
 
 // Whether the device has what the call asks for: there are copying contexts alone so far.
-fn is_built_call(call: &Call) -> bool {
+fn is_built_call(call: &Call) -> bool
+    ensures { result ≡ is_built_call call.now }
+{
     match call {
         Call::Open { kind: Kind::Enc } | Call::Open { kind: Kind::Dec } => false,
         _ => true,
     }
 }
 
-fn is_built(line: &Option<Line>) -> bool {
+fn is_built(line: &Option<Line>) -> bool
+    ensures { result ≡ is_built line.now }
+{
     match line {
         Some(Line::Call { call, .. }) => is_built_call(call),
         _ => true,
@@ -33,12 +48,18 @@ fn is_built(line: &Option<Line>) -> bool {
 }
 
 // What a line asks for.
-fn read_asked(alloc: Global, line: &[u8], slots: u32) -> Result<Option<Line>, LineFault> {
-    let asked = read_line(alloc, line, slots)?;
-    if is_built(&asked) {
-        Ok(asked)
-    } else {
-        Err(LineFault::Bad)
+fn read_asked(alloc: Global, line: &[u8], slots: u32) -> Result<Option<Line>, LineFault>
+    ensures { Reads (only_built (line_of slots line.now)) result }
+{
+    match read_line(alloc, line, slots) {
+        Ok(asked) => {
+            if is_built(&asked) {
+                Ok(asked)
+            } else {
+                Err(LineFault::Bad)
+            }
+        }
+        Err(fault) => Err(fault),
     }
 }
 
@@ -50,7 +71,18 @@ fn do_line<K: Sink, E: Engine>(
     desk: &mut Desk,
     sink: &mut K,
     engine: &mut E,
-) -> Result<bool, LineStop> {
+) -> Result<bool, LineStop>
+    requires desk { IsSomeDesk desk.old }
+    requires slots { length desk.old.core.slots ≡ slots }
+    requires counts { desk.old.core.steps + 1 < 2 ^ 62 }
+    ensures done { (history : List DeviceEvent) → IsDesk slots history desk.old → IfOk result (λ fault. LineDone slots history line.now (K.written sink.old) (K.written sink.new) fault (E.run_count engine.old) (E.run_count engine.new) (E.fault_count engine.old) (E.fault_count engine.new) desk.new) }
+    ensures stopped { (history : List DeviceEvent) → IsDesk slots history desk.old → IfErr result (λ stop. LineStopped slots history line.now (K.written sink.old) (K.written sink.new) (E.run_count engine.old) (E.run_count engine.new) (E.fault_count engine.old) (E.fault_count engine.new) stop) }
+    ensures steps { IfOk result (λ fault. desk.new.core.steps ≤ desk.old.core.steps + 2) }
+    ensures sink_later { K.faults sink.old ≤ K.faults sink.new }
+    ensures write { IsErrOf result LineStop.WriteFault → Rose (K.faults sink.old) (K.faults sink.new) }
+    ensures runs_stay { E.run_count engine.old ≤ E.run_count engine.new }
+    ensures faults_stay { E.fault_count engine.old ≤ E.fault_count engine.new }
+{
     let asked = match read_asked(alloc, line, slots) {
         Ok(asked) => asked,
         Err(LineFault::Bad) => return Err(LineStop::Bad),
@@ -65,7 +97,9 @@ fn do_line<K: Sink, E: Engine>(
     }
 }
 
-fn stop_status(stop: LineStop, number: u64) -> Status {
+fn stop_status(stop: LineStop, number: u64) -> Status
+    ensures { result ≡ status_of stop number }
+{
     match stop {
         LineStop::Bad => Status::BadLine { line: number },
         LineStop::WriteFault => Status::WriteFault,
@@ -73,11 +107,15 @@ fn stop_status(stop: LineStop, number: u64) -> Status {
     }
 }
 
-fn either(a: bool, b: bool) -> bool {
+fn either(a: bool, b: bool) -> bool
+    ensures { result ≡ (a || b) }
+{
     a || b
 }
 
-fn end_status(faulted: bool) -> Status {
+fn end_status(faulted: bool) -> Status
+    ensures { result ≡ status_at_end faulted }
+{
     if faulted {
         Status::EngineFault
     } else {
@@ -93,7 +131,13 @@ fn do_lines<K: Sink, E: Engine>(
     desk: &mut Desk,
     sink: &mut K,
     engine: &mut E,
-) -> Status {
+) -> Status
+    requires desk { IsDesk slots [] desk.old }
+    requires steps { desk.old.core.steps ≡ 0 }
+    requires short { length script.now ≤ 1048576 }
+    ensures end { LinesEnd slots (lines script.now) (K.written sink.old) (K.written sink.new) (record { runs = E.run_count engine.old; faults = E.fault_count engine.old }) (record { runs = E.run_count engine.new; faults = E.fault_count engine.new }) result }
+    ensures write { result ≡ Status.WriteFault → Rose (K.faults sink.old) (K.faults sink.new) }
+{
     let mut rest = script;
     let mut number: u64 = 0;
     let mut faulted = false;
@@ -116,7 +160,12 @@ pub(crate) fn run_lines<K: Sink, E: Engine>(
     script: &[u8],
     sink: &mut K,
     engine: &mut E,
-) -> Status {
+) -> Status
+    requires slots { (0 < slots) × (slots ≤ 1024) }
+    requires short { length script.now ≤ 1048576 }
+    ensures end { LinesEnd slots (lines script.now) (K.written sink.old) (K.written sink.new) (record { runs = E.run_count engine.old; faults = E.fault_count engine.old }) (record { runs = E.run_count engine.new; faults = E.fault_count engine.new }) result }
+    ensures write { result ≡ Status.WriteFault → Rose (K.faults sink.old) (K.faults sink.new) }
+{
     match Desk::make(alloc, slots) {
         Ok(mut desk) => do_lines(alloc, slots, script, &mut desk, sink, engine),
         Err(_) => Status::NoMemory,
