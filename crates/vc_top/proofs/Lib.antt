@@ -1,8 +1,10 @@
+mod CallsDone
 mod Carrying
 mod DeviceJobs
 mod Feeds
 mod Grammar
 mod Holding
+mod JobsDone
 mod KeepingJobs
 mod LineTexts
 mod Made

@@ -107,14 +107,15 @@ fit_at before now holds k i hold l apart f own false e =
     subst (FitsSlot (slot_of now i)) (sym (get_or-set_other holds k i hold empty_hold differs)) (subst (λ s. FitsSlot s (get_or holds i empty_hold)) (sym (apart differs)) f)
 
 -- what a call came to
-pub record CallMade (n : ℕ) (history : List DeviceEvent) (k : ℕ) (request : Call) (bytes : List ℕ) (told : Reply) (now : CoreState) (holds : List HoldState) (jobs : List (Option Job)) : Type 0 where
+pub record CallMade (n : ℕ) (history : List DeviceEvent) (k : ℕ) (request : Call) (bytes : List ℕ) (told : Reply) (now : CoreState) (holds : List HoldState) (jobs : List (Option Job)) (was_handed : List ℕ) : Type 0 where
   pub found : Bool
   pub handed : List ℕ
+  pub same_handed : handed ≡ was_handed
   pub want : found ≡ false → told ≡ Refused NoMem
   pub reply : (device_step the_coder (after n history) (call k request bytes found)).reply ≡ Told k (Answered told handed)
   pub at : IsAt n (history ++ call k request bytes found ∷ []) now holds jobs
 
-pub call_made : (n : ℕ) (history : List DeviceEvent) (core now : CoreState) (holds : List HoldState) (jobs : List (Option Job)) (k : ℕ) (request : Call) (bytes : List ℕ) (told : Reply) (hold : HoldState) → IsAt n history core holds jobs → k < n → HasUsedBytes request bytes → IsCall core k request (filled request bytes (get_or holds k empty_hold)) told now → length now.slots ≡ length core.slots → now.workers ≡ core.workers → FitsSlot (slot_of now k) hold → CallMade n history k request bytes told now (set holds k hold) jobs
+pub call_made : (n : ℕ) (history : List DeviceEvent) (core now : CoreState) (holds : List HoldState) (jobs : List (Option Job)) (k : ℕ) (request : Call) (bytes : List ℕ) (told : Reply) (hold : HoldState) → IsAt n history core holds jobs → k < n → HasUsedBytes request bytes → (is : IsCall core k request (filled request bytes (get_or holds k empty_hold)) told now) → length now.slots ≡ length core.slots → now.workers ≡ core.workers → FitsSlot (slot_of now k) hold → CallMade n history k request bytes told now (set holds k hold) jobs is.handed
 call_made n history core now holds jobs k request bytes told hold at l used is size crew fit =
     let sound = cores_are_sound the_coder n 16 core history k at.stands in
     let same = step_same core k request bytes (filled request bytes (get_or holds k empty_hold)) is.found (answer_same (slot_of core k) request bytes (get_or holds k empty_hold) is.found used sound (at.fit k l)) in
@@ -124,6 +125,7 @@ call_made n history core now holds jobs k request bytes told hold at l used is s
     record {
       found = is.found;
       handed = is.handed;
+      same_handed = refl;
       want = is.want;
       reply = sym step.reply ∙ (sym (ap (λ s. s.reply) same) ∙ is.reply);
       at = record {
@@ -292,7 +294,7 @@ slot_ends : (core : CoreState) (worker k : ℕ) (j : JobData) (fault : Bool) (s 
 slot_ends core worker k j fault None e sorted h = absurd h
 slot_ends core worker k j fault (Some c) e sorted h = job_ends core worker k c j fault e sorted c.running h.running
 
-same_word : (j : JobData) (fault : Bool) → word_of (brought_back the_coder j fault) ≡ finish_word the_coder j fault
+pub same_word : (j : JobData) (fault : Bool) → word_of (brought_back the_coder j fault) ≡ finish_word the_coder j fault
 unfolding finish_word
 same_word j true = refl
 same_word j false = refl

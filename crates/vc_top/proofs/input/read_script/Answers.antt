@@ -1,9 +1,3 @@
-use Rattle.vc_top.proofs.Holding.{answer_same}
-use Rattle.vc_top.proofs.LineTexts.{call_does}
-use Rattle.vc_top.proofs.Made.{call_line}
-use Rattle.vc_top.proofs.SoFar.{all_done}
-use Rattle.vc_top.proofs.Transitions.{first_desk}
-use Rattle.vc_top.proofs.Grammar.{asked_line}
 use Rattle.std.proofs.Common.{◌++◌, ◌≤◌, take, arith, length-append, length-take}
 use Rattle.std.proofs.lemmas.Grind.{common_steps}
 use Rattle.vc_top.proofs.Reading.{consumes_both}
