@@ -1,6 +1,6 @@
 -- What a line came to, from what its steps came to.
 use Rattle.std.proofs.Common.{ℕ, zero, suc, ◌≡◌, ◌<◌, ◌≤◌, ◌+◌, ◌⊎◌, min, nat_le, nat_lt, Bool, true, false, cond, Option, Some, None, List, [], ◌∷◌, ◌++◌, length, take, decimal, get_or, set, refl, sym, ap, ◌∙◌, subst, arith, ⊎_elim, append_assoc, length-append}
-use Rattle.std.specs.Prelude.{codes}
+use Rattle.std.specs.Prelude.{codes, Result, Ok, Err, IfOk}
 use Rattle.std.specs.List.{filter}
 use Rattle.std.proofs.lemmas.List.{append-nil}
 use Rattle.hex.specs.Hex.{encode_lower}
@@ -28,7 +28,7 @@ use Rattle.vc_model.specs.Solo.{Claimed}
 use Rattle.vc_core.specs.Payloads.{empty_hold}
 use Rattle.std.proofs.lemmas.Bool.{true≢false}
 use Rattle.vc_top.specs.declared.desk.Desk.{Desk}
-use Rattle.vc_top.specs.Desks.{after, IsKeptJob, IsAt, IsDesk, IsTaken, front_is, taken_payload, has_bytes, CallDone, ClaimDone, was_busy, was_empty, took, FinishDone, was_idle, ended, FinishesWith}
+use Rattle.vc_top.specs.Desks.{after, IsKeptJob, IsAt, IsDesk, IsTaken, front_is, taken_payload, has_bytes, CallDone, ClaimDone, was_busy, was_empty, took, FinishDone, was_idle, ended, ClaimsWith, FinishesWith, IsSomeDesk}
 use Rattle.vc_top.specs.Does.{LineDoes}
 use Rattle.vc_top.specs.Carries.{finishes, RoseBy, IsCounted, LineMade}
 use Rattle.vc_top.proofs.LineTexts.{nothing_does, call_read, call_does, claim_busy, claim_none, claim_took, finish_idles, finish_ends, run_busy, run_none, run_ends}
@@ -268,3 +268,43 @@ run_with n history worker mid desk claimed front runs runs' faults faults' fault
 run_with n history worker mid desk claimed front runs runs' faults faults' fault whole c (took k rest e w r at has) f =
     let g = f n (history ++ claim worker ∷ []) at in
     subst (λ t. LineMade n history (AsksRun worker) t fault runs runs' faults faults' desk) (sym g.1) (run_then n history worker k rest desk runs runs' faults faults' fault g.0 e w r has g.2)
+
+-- Over the texts of the functions
+
+first_text : (before now text : List ℕ) → before ≡ [] → now ≡ before ++ text → text ≡ now
+first_text before now text e f = sym (f ∙ ap (λ b. b ++ text) e)
+
+claim_of : (n : ℕ) (history : List DeviceEvent) (worker : ℕ) (old mid : Desk) (before now : List ℕ) (claimed : Bool) → before ≡ [] → IsDesk n history old → ClaimsWith old worker before now mid claimed → ClaimDone n history worker mid claimed now
+claim_of n history worker old mid before now claimed e at claims =
+    let x = claims n history at in
+    subst (ClaimDone n history worker mid claimed) (first_text before now x.0 e x.1) x.2
+
+pub claim_text_line : (n : ℕ) (history : List DeviceEvent) (worker : ℕ) (old mid : Desk) (before now : List ℕ) (claimed : Bool) (runs faults : ℕ) → before ≡ [] → IsDesk n history old → ClaimsWith old worker before now mid claimed → LineMade n history (AsksClaim worker) now false runs runs faults faults mid
+claim_text_line n history worker old mid before now claimed runs faults e at claims =
+    claim_line n history worker mid claimed now runs faults (claim_of n history worker old mid before now claimed e at claims)
+
+pub finish_text_line : (n : ℕ) (history : List DeviceEvent) (worker : ℕ) (old desk : Desk) (before now : List ℕ) (runs runs' faults faults' : ℕ) (fault : Bool) → before ≡ [] → IsDesk n history old → FinishesWith old worker before now desk runs runs' faults faults' fault → LineMade n history (AsksFinish worker) now fault runs runs' faults faults' desk
+finish_text_line n history worker old desk before now runs runs' faults faults' fault e at finishes_so =
+    let x = finishes_so n history at in
+    subst (λ t. LineMade n history (AsksFinish worker) t fault runs runs' faults faults' desk) (first_text before now x.0 e x.1) (finish_line n history worker desk runs runs' faults faults' fault x.0 x.2)
+
+pub run_text_line : (n : ℕ) (history : List DeviceEvent) (worker : ℕ) (old mid desk : Desk) (before now whole : List ℕ) (claimed : Bool) (runs runs' faults faults' : ℕ) (fault : Bool) → before ≡ [] → claimed ≡ true → IsDesk n history old → ClaimsWith old worker before now mid claimed → FinishesWith mid worker now whole desk runs runs' faults faults' fault → LineMade n history (AsksRun worker) whole fault runs runs' faults faults' desk
+run_text_line n history worker old mid desk before now whole claimed runs runs' faults faults' fault e c at claims f =
+    run_with n history worker mid desk claimed now runs runs' faults faults' fault whole c (claim_of n history worker old mid before now claimed e at claims) f
+
+pub run_only_line : (n : ℕ) (history : List DeviceEvent) (worker : ℕ) (old mid : Desk) (before now : List ℕ) (claimed : Bool) (runs faults : ℕ) → before ≡ [] → claimed ≡ false → IsDesk n history old → ClaimsWith old worker before now mid claimed → LineMade n history (AsksRun worker) now false runs runs faults faults mid
+run_only_line n history worker old mid before now claimed runs faults e c at claims =
+    run_without n history worker mid claimed now runs faults c (claim_of n history worker old mid before now claimed e at claims)
+
+some_after : (n : ℕ) (history : List DeviceEvent) (worker : ℕ) (mid : Desk) (claimed : Bool) (text : List ℕ) → ClaimDone n history worker mid claimed text → IsSomeDesk mid
+some_after n history worker mid claimed text (was_busy k e at) = (n, history, at)
+some_after n history worker mid claimed text (was_empty e w r at) = (n, history ++ claim worker ∷ [], at)
+some_after n history worker mid claimed text (took k rest e w r at has) = (n, history ++ claim worker ∷ [], at)
+
+pub some_claimed : (worker : ℕ) (old mid : Desk) (before now : List ℕ) (claimed : Bool) → IsSomeDesk old → ClaimsWith old worker before now mid claimed → IsSomeDesk mid
+some_claimed worker old mid before now claimed some claims =
+    let x = claims some.0 some.1 some.2 in some_after some.0 some.1 worker mid claimed x.0 x.2
+
+pub ok_map : {T E : Type 0} (r : Result T E) (P Q : T → Type 0) → ((x : T) → P x → Q x) → IfOk r P → IfOk r Q
+ok_map (Ok x) P Q f h = f x h
+ok_map (Err e) P Q f h = tt

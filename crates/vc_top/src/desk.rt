@@ -107,6 +107,7 @@ impl Desk {
         requires counts { self.old.core.steps < 2 ^ 62 }
         ensures done { (n : ℕ) (history : List DeviceEvent) → IsDesk n history self.old → HasUsedBytes call.now bytes.now → CallDone n history slot call.now bytes.now result self.new }
         ensures steps { self.new.core.steps ≤ self.old.core.steps + 1 }
+        ensures users { length self.new.holds.items ≡ length self.old.holds.items }
 {
         let hold = &mut self.holds[slot as usize];
         fill(hold, call, bytes);
