@@ -267,3 +267,13 @@ write_cause stops.WriteFault number s0 s1 s2 e rose later = rose_later s0 s1 s2 
 pub end_cause : (faulted : Bool) → status_at_end faulted ≡ WriteFault → ⊥
 end_cause true e = cc
 end_cause false e = cc
+
+-- nothing was carried out
+pub none_written : (slots : ℕ) (ls : List (List ℕ)) (old : Option (List ℕ)) (counts_now : EngineCounts) → FrontWritten slots ls old old counts_now counts_now
+none_written slots ls old k =
+    record {
+      count = 0;
+      output = [];
+      carries = record { asked = []; asks = refl; prints = refl; counted = record { ran = omega arith; failed = omega arith } };
+      written = (0, omega arith, appends_nothing old);
+    }

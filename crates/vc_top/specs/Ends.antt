@@ -84,3 +84,9 @@ ScriptEnds slots input left old new before now NoMemory =
 ScriptEnds slots input left old new before now ReadFault = new ≡ old
 ScriptEnds slots input left old new before now TooLong = (longest_script < length input) × (new ≡ old)
 ScriptEnds slots input left old new before now Usage = ⊥
+
+-- a script that isn't too long, with every line in the grammar
+pub record IsGoodScript (slots : ℕ) (input : List ℕ) : Type 0 where
+  pub short : length input ≤ longest_script
+  pub asked : List Asked
+  pub asks : asks_lines slots (lines input) ≡ Some asked

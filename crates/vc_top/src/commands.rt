@@ -1,5 +1,10 @@
 //! The commands, over the words of the command line.
 
+ghost use Rattle.std.specs.Prelude.{◌≡◌, ◌≢◌, ◌<◌, ◌≤◌, ◌↔◌, ◌⊎◌, ◌∷◌, List, Option, None, Some, IfSome, map, string_bytes, vec_len};
+ghost use Rattle.vc_base.specs.Counts.{Rose};
+ghost use Rattle.vc_top.specs.Ends.{ScriptEnds, IsGoodScript};
+ghost use Rattle.vc_top.specs.Words.{script_slots};
+
 use crate::input::{ReadStop, read_script};
 use crate::script::run_lines;
 use crate::status::Status;
@@ -15,7 +20,15 @@ pub fn script_run<S: Source, K: Sink>(
     source: &mut S,
     sink: &mut K,
     engine: &mut Box<dyn Engine + Send>,
-) -> Status {
+) -> Status
+    requires { (0 < slots) × (slots ≤ 1024) }
+    ensures end { IfSome (S.left source.old) (λ input. ScriptEnds slots input (S.left source.new) (K.written sink.old) (K.written sink.new) (record { runs = run_count engine.old; faults = fault_count engine.old }) (record { runs = run_count engine.new; faults = fault_count engine.new }) result) }
+    ensures read { result ≡ Status.ReadFault → Rose (S.faults source.old) (S.faults source.new) }
+    ensures write { result ≡ Status.WriteFault → Rose (K.faults sink.old) (K.faults sink.new) }
+    ensures engine { result ≡ Status.EngineFault → Rose (fault_count engine.old) (fault_count engine.new) }
+    ensures words { result ≢ Status.Usage }
+    ensures complete { IfSome (S.left source.old) (λ input. IsGoodScript slots input → (Rose (S.faults source.old) (S.faults source.new) → ⊥) → (Rose (K.faults sink.old) (K.faults sink.new) → ⊥) → (Rose (fault_count engine.old) (fault_count engine.new) → ⊥) → (result ≡ Status.Fine) ⊎ (result ≡ Status.NoMemory)) }
+{
     match read_script(alloc, source) {
         Ok(script) => run_lines(alloc, slots, &script, sink, engine),
         Err(ReadStop::ReadFault) => Status::ReadFault,
@@ -31,7 +44,12 @@ pub fn top<S: Source, K: Sink>(
     source: &mut S,
     sink: &mut K,
     engines: &mut Vec<Box<dyn Engine + Send>>,
-) -> Status {
+) -> Status
+    requires { vec_len engines.old ≡ 16 }
+    ensures usage { (result ≡ Status.Usage) ↔ (script_slots (map (λ w. string_bytes w) words.now) ≡ None) }
+    ensures read { result ≡ Status.ReadFault → Rose (S.faults source.old) (S.faults source.new) }
+    ensures write { result ≡ Status.WriteFault → Rose (K.faults sink.old) (K.faults sink.new) }
+{
     match slots_of_words(words) {
         Some(slots) => script_run(alloc, slots, source, sink, &mut engines[0]),
         None => Status::Usage,
