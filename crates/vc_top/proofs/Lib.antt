@@ -10,4 +10,5 @@ mod LineTexts
 mod Made
 mod SoFar
 mod Transitions
+mod Whole
 mod Reading

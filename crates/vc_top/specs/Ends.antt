@@ -1,6 +1,6 @@
 -- How a script ends.
 use Rattle.std.specs.Prelude.{ℕ, ◌≡◌, ◌+◌, ◌≤◌, ◌<◌, ◌⊎◌, true, List, ◌∷◌, length, take, drop, Option, Some, None, ⊤}
-use Rattle.std.specs.Io.KnownBytes.{Appends, IsAtEnd}
+use Rattle.std.specs.Io.KnownBytes.{Appends, Consumes, IsAtEnd}
 use Rattle.std.specs.Str.Lines.{lines}
 use Rattle.vc_base.specs.Counts.{Rose}
 use Rattle.vc_base.specs.Device.{DeviceEvent}
@@ -72,6 +72,12 @@ pub record LinesOf (slots : ℕ) (input : List ℕ) (left old new : Option (List
   pub short : length input ≤ longest_script
   pub lines_end : LinesEnd slots (lines input) old new before now status
 
+-- Reading stopped, after no more bytes than a script may have.
+pub record ReadStopped (input : List ℕ) (left : Option (List ℕ)) : Type 0 where
+  pub bytes : List ℕ
+  pub read : Consumes (Some input) left bytes
+  pub short : length bytes ≤ longest_script
+
 -- How a script with this input ends. After a failed read nothing is written, nor of a script that is too long: TooLong is the
 -- answer exactly where more than the most bytes were read.
 abbrev pub ScriptEnds : ℕ → List ℕ → Option (List ℕ) → Option (List ℕ) → Option (List ℕ) → EngineCounts → EngineCounts → Status → Type 0
@@ -81,7 +87,7 @@ ScriptEnds slots input left old new before now (BadLine number) = LinesOf slots 
 ScriptEnds slots input left old new before now WriteFault = LinesOf slots input left old new before now WriteFault
 ScriptEnds slots input left old new before now NoMemory =
     LinesOf slots input left old new before now NoMemory ⊎ (new ≡ old)
-ScriptEnds slots input left old new before now ReadFault = new ≡ old
+ScriptEnds slots input left old new before now ReadFault = ReadStopped input left × (new ≡ old)
 ScriptEnds slots input left old new before now TooLong = (longest_script < length input) × (new ≡ old)
 ScriptEnds slots input left old new before now Usage = ⊥
 

@@ -13,6 +13,30 @@ use std::alloc::Global;
 use vc_core::Engine;
 use vc_io::{Sink, Source};
 
+// Reads a script whole and carries out its lines on any engine.
+fn script_on<S: Source, K: Sink, E: Engine>(
+    alloc: Global,
+    slots: u32,
+    source: &mut S,
+    sink: &mut K,
+    engine: &mut E,
+) -> Status
+    requires { (0 < slots) × (slots ≤ 1024) }
+    ensures end { IfSome (S.left source.old) (λ input. ScriptEnds slots input (S.left source.new) (K.written sink.old) (K.written sink.new) (record { runs = E.run_count engine.old; faults = E.fault_count engine.old }) (record { runs = E.run_count engine.new; faults = E.fault_count engine.new }) result) }
+    ensures read { result ≡ Status.ReadFault → Rose (S.faults source.old) (S.faults source.new) }
+    ensures write { result ≡ Status.WriteFault → Rose (K.faults sink.old) (K.faults sink.new) }
+    ensures engine { result ≡ Status.EngineFault → Rose (E.fault_count engine.old) (E.fault_count engine.new) }
+    ensures words { result ≢ Status.Usage }
+    ensures complete { IfSome (S.left source.old) (λ input. IsGoodScript slots input → (Rose (S.faults source.old) (S.faults source.new) → ⊥) → (Rose (K.faults sink.old) (K.faults sink.new) → ⊥) → (Rose (E.fault_count engine.old) (E.fault_count engine.new) → ⊥) → (result ≡ Status.Fine) ⊎ (result ≡ Status.NoMemory)) }
+{
+    match read_script(alloc, source) {
+        Ok(script) => run_lines(alloc, slots, &script, sink, engine),
+        Err(ReadStop::ReadFault) => Status::ReadFault,
+        Err(ReadStop::TooLong) => Status::TooLong,
+        Err(ReadStop::NoMemory) => Status::NoMemory,
+    }
+}
+
 /// Reads a script whole, carries out its lines and prints what they answer.
 pub fn script_run<S: Source, K: Sink>(
     alloc: Global,
@@ -29,12 +53,7 @@ pub fn script_run<S: Source, K: Sink>(
     ensures words { result ≢ Status.Usage }
     ensures complete { IfSome (S.left source.old) (λ input. IsGoodScript slots input → (Rose (S.faults source.old) (S.faults source.new) → ⊥) → (Rose (K.faults sink.old) (K.faults sink.new) → ⊥) → (Rose (fault_count engine.old) (fault_count engine.new) → ⊥) → (result ≡ Status.Fine) ⊎ (result ≡ Status.NoMemory)) }
 {
-    match read_script(alloc, source) {
-        Ok(script) => run_lines(alloc, slots, &script, sink, engine),
-        Err(ReadStop::ReadFault) => Status::ReadFault,
-        Err(ReadStop::TooLong) => Status::TooLong,
-        Err(ReadStop::NoMemory) => Status::NoMemory,
-    }
+    script_on(alloc, slots, source, sink, engine)
 }
 
 /// Does all that the program does, on the words behind its name.
