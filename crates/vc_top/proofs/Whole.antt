@@ -11,7 +11,7 @@ use Rattle.vc_top.specs.declared.input.ReadStop.TheVariants as reads
 use Rattle.vc_top.specs.Asking.{asks_line, asks_lines, with_rest}
 use Rattle.vc_top.specs.Carries.{RoseBy}
 use Rattle.vc_top.specs.Input.{WasRead, Stopped, longest_script}
-use Rattle.vc_top.specs.Ends.{EngineCounts, LinesEnd, ScriptEnds, IsGoodScript}
+use Rattle.vc_top.specs.Ends.{EngineCounts, LinesEnd, ScriptEnds, IsGoodScript, Completes}
 
 -- what was consumed up to the end is the whole
 whole : (input script : List ℕ) (new : Option (List ℕ)) → Consumes (Some input) new script → IsAtEnd new → input ≡ script
@@ -119,7 +119,25 @@ complete_end slots input left old new before now TooLong r0 r1 s0 s1 e a b c goo
 complete_end slots input left old new before now (BadLine n) r0 r1 s0 s1 e a b c good x y z =
     absurd (all_good slots (lines input) good.asked e.lines_end.count e.lines_end.line e.lines_end.more good.asks e.lines_end.there e.lines_end.bad)
 
-pub complete_script : (slots : ℕ) (had left old new : Option (List ℕ)) (before now : EngineCounts) (status : Status) (r0 r1 s0 s1 : ℕ) → IfSome had (λ input. ScriptEnds slots input left old new before now status) → (status ≡ ReadFault → Rose r0 r1) → (status ≡ WriteFault → Rose s0 s1) → (status ≡ EngineFault → Rose before.faults now.faults) → IfSome had (λ input. IsGoodScript slots input → (Rose r0 r1 → ⊥) → (Rose s0 s1 → ⊥) → (Rose before.faults now.faults → ⊥) → (status ≡ Fine) ⊎ (status ≡ NoMemory))
+pub complete_script : (slots : ℕ) (had left old new : Option (List ℕ)) (before now : EngineCounts) (status : Status) (r0 r1 s0 s1 : ℕ) → IfSome had (λ input. ScriptEnds slots input left old new before now status) → (status ≡ ReadFault → Rose r0 r1) → (status ≡ WriteFault → Rose s0 s1) → (status ≡ EngineFault → Rose before.faults now.faults) → IfSome had (λ input. Completes slots input r0 r1 s0 s1 before.faults now.faults status)
+unfolding Completes
 complete_script slots None left old new before now status r0 r1 s0 s1 e a b c = tt
 complete_script slots (Some input) left old new before now status r0 r1 s0 s1 e a b c =
     λ good x y z. complete_end slots input left old new before now status r0 r1 s0 s1 e a b c good x y z
+
+pub completes_read : (slots : ℕ) (had : Option (List ℕ)) (r0 r1 s0 s1 f0 f1 : ℕ) → Rose r0 r1 → IfSome had (λ input. Completes slots input r0 r1 s0 s1 f0 f1 ReadFault)
+unfolding Completes
+completes_read slots None r0 r1 s0 s1 f0 f1 rose = tt
+completes_read slots (Some input) r0 r1 s0 s1 f0 f1 rose = λ good x y z. absurd (x rose)
+
+pub completes_memory : (slots : ℕ) (had : Option (List ℕ)) (r0 r1 s0 s1 f0 f1 : ℕ) → IfSome had (λ input. Completes slots input r0 r1 s0 s1 f0 f1 NoMemory)
+unfolding Completes
+completes_memory slots None r0 r1 s0 s1 f0 f1 = tt
+completes_memory slots (Some input) r0 r1 s0 s1 f0 f1 = λ good x y z. inr refl
+
+pub completes_long : (slots : ℕ) (had left : Option (List ℕ)) (r0 r1 s0 s1 f0 f1 : ℕ) → Stopped had left reads.TooLong → IfSome had (λ input. Completes slots input r0 r1 s0 s1 f0 f1 TooLong)
+unfolding Completes
+completes_long slots None left r0 r1 s0 s1 f0 f1 stopped = tt
+completes_long slots (Some input) None r0 r1 s0 s1 f0 f1 stopped = absurd stopped.read
+completes_long slots (Some input) (Some rest) r0 r1 s0 s1 f0 f1 stopped = λ good x y z.
+    absurd (omega (arith, ap length stopped.read, length-append stopped.bytes rest, stopped.long refl, good.short))

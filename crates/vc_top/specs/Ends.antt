@@ -96,3 +96,9 @@ pub record IsGoodScript (slots : ℕ) (input : List ℕ) : Type 0 where
   pub short : length input ≤ longest_script
   pub asked : List Asked
   pub asks : asks_lines slots (lines input) ≡ Some asked
+
+-- Where every line of the script is in the grammar, it isn't too long, and neither the source, the sink nor the engine counts a
+-- fault or stands at the end of its count, the end is fine, but for want of memory.
+unfoldable pub Completes : ℕ → List ℕ → ℕ → ℕ → ℕ → ℕ → ℕ → ℕ → Status → Type 0
+Completes slots input source_before source_now sink_before sink_now engine_before engine_now status =
+    IsGoodScript slots input → (Rose source_before source_now → ⊥) → (Rose sink_before sink_now → ⊥) → (Rose engine_before engine_now → ⊥) → (status ≡ Fine) ⊎ (status ≡ NoMemory)

@@ -1,8 +1,8 @@
 //! The commands, over the words of the command line.
 
-ghost use Rattle.std.specs.Prelude.{◌≡◌, ◌≢◌, ◌<◌, ◌≤◌, ◌↔◌, ◌⊎◌, ◌∷◌, List, Option, None, Some, IfSome, map, string_bytes, vec_len};
+ghost use Rattle.std.specs.Prelude.{◌≡◌, ◌≢◌, ◌<◌, ◌≤◌, ◌↔◌, None, IfSome, map, string_bytes, vec_len, slice_get, drop};
 ghost use Rattle.vc_base.specs.Counts.{Rose};
-ghost use Rattle.vc_top.specs.Ends.{ScriptEnds, IsGoodScript};
+ghost use Rattle.vc_top.specs.Ends.{ScriptEnds, Completes};
 ghost use Rattle.vc_top.specs.Words.{script_slots};
 
 use crate::input::{ReadStop, read_script};
@@ -27,7 +27,7 @@ fn script_on<S: Source, K: Sink, E: Engine>(
     ensures write { result ≡ Status.WriteFault → Rose (K.faults sink.old) (K.faults sink.new) }
     ensures engine { result ≡ Status.EngineFault → Rose (E.fault_count engine.old) (E.fault_count engine.new) }
     ensures words { result ≢ Status.Usage }
-    ensures complete { IfSome (S.left source.old) (λ input. IsGoodScript slots input → (Rose (S.faults source.old) (S.faults source.new) → ⊥) → (Rose (K.faults sink.old) (K.faults sink.new) → ⊥) → (Rose (E.fault_count engine.old) (E.fault_count engine.new) → ⊥) → (result ≡ Status.Fine) ⊎ (result ≡ Status.NoMemory)) }
+    ensures complete { IfSome (S.left source.old) (λ input. Completes slots input (S.faults source.old) (S.faults source.new) (K.faults sink.old) (K.faults sink.new) (E.fault_count engine.old) (E.fault_count engine.new) result) }
 {
     match read_script(alloc, source) {
         Ok(script) => run_lines(alloc, slots, &script, sink, engine),
@@ -51,7 +51,7 @@ pub fn script_run<S: Source, K: Sink>(
     ensures write { result ≡ Status.WriteFault → Rose (K.faults sink.old) (K.faults sink.new) }
     ensures engine { result ≡ Status.EngineFault → Rose (fault_count engine.old) (fault_count engine.new) }
     ensures words { result ≢ Status.Usage }
-    ensures complete { IfSome (S.left source.old) (λ input. IsGoodScript slots input → (Rose (S.faults source.old) (S.faults source.new) → ⊥) → (Rose (K.faults sink.old) (K.faults sink.new) → ⊥) → (Rose (fault_count engine.old) (fault_count engine.new) → ⊥) → (result ≡ Status.Fine) ⊎ (result ≡ Status.NoMemory)) }
+    ensures complete { IfSome (S.left source.old) (λ input. Completes slots input (S.faults source.old) (S.faults source.new) (K.faults sink.old) (K.faults sink.new) (fault_count engine.old) (fault_count engine.new) result) }
 {
     script_on(alloc, slots, source, sink, engine)
 }
@@ -66,8 +66,14 @@ pub fn top<S: Source, K: Sink>(
 ) -> Status
     requires { vec_len engines.old ≡ 16 }
     ensures usage { (result ≡ Status.Usage) ↔ (script_slots (map (λ w. string_bytes w) words.now) ≡ None) }
+    ensures untouched { script_slots (map (λ w. string_bytes w) words.now) ≡ None → (source.new ≡ source.old) × (sink.new ≡ sink.old) × (engines.new ≡ engines.old) }
+    ensures script { IfSome (script_slots (map (λ w. string_bytes w) words.now)) (λ slots. IfSome (S.left source.old) (λ input. IfSome (slice_get engines.old.items 0) (λ before. IfSome (slice_get engines.new.items 0) (λ now. ScriptEnds slots input (S.left source.new) (K.written sink.old) (K.written sink.new) (record { runs = ⟦<Box<dyn Engine + Send> as Engine>⟧.run_count before; faults = ⟦<Box<dyn Engine + Send> as Engine>⟧.fault_count before }) (record { runs = ⟦<Box<dyn Engine + Send> as Engine>⟧.run_count now; faults = ⟦<Box<dyn Engine + Send> as Engine>⟧.fault_count now }) result)))) }
     ensures read { result ≡ Status.ReadFault → Rose (S.faults source.old) (S.faults source.new) }
     ensures write { result ≡ Status.WriteFault → Rose (K.faults sink.old) (K.faults sink.new) }
+    ensures engine { result ≡ Status.EngineFault → IfSome (slice_get engines.old.items 0) (λ before. IfSome (slice_get engines.new.items 0) (λ now. Rose (⟦<Box<dyn Engine + Send> as Engine>⟧.fault_count before) (⟦<Box<dyn Engine + Send> as Engine>⟧.fault_count now))) }
+    ensures complete { IfSome (script_slots (map (λ w. string_bytes w) words.now)) (λ slots. IfSome (S.left source.old) (λ input. IfSome (slice_get engines.old.items 0) (λ before. IfSome (slice_get engines.new.items 0) (λ now. Completes slots input (S.faults source.old) (S.faults source.new) (K.faults sink.old) (K.faults sink.new) (⟦<Box<dyn Engine + Send> as Engine>⟧.fault_count before) (⟦<Box<dyn Engine + Send> as Engine>⟧.fault_count now) result)))) }
+    ensures crew { vec_len engines.new ≡ 16 }
+    ensures others { drop 1 engines.new.items ≡ drop 1 engines.old.items }
 {
     match slots_of_words(words) {
         Some(slots) => script_run(alloc, slots, source, sink, &mut engines[0]),
