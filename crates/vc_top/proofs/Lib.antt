@@ -11,4 +11,5 @@ mod Made
 mod SoFar
 mod Transitions
 mod Whole
+mod OwnLines
 mod Reading

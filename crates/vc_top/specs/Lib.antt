@@ -4,5 +4,6 @@ pub mod Desks
 pub mod Does
 pub mod Ends
 pub mod Input
+pub mod Slots
 pub mod Steps
 pub mod Words

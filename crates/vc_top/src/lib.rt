@@ -6,6 +6,7 @@ mod carry;
 mod commands;
 mod desk;
 mod input;
+pub mod laws;
 mod script;
 mod status;
 mod words;

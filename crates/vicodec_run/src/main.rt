@@ -1,6 +1,10 @@
 //! The program: a stateful video codec device that is driven by a script on standard input.
 #![tactic(auto)]
 
+ghost use Rattle.std.specs.Prelude.{◌≡◌, IfSome, vec_len};
+
+#[cfg(test)]
+mod tests;
 
 use std::alloc::Global;
 use std::process::ExitCode;
@@ -29,7 +33,9 @@ fn words(rt: &(impl Env + Alloc<A = Global>)) -> Result<Vec<String>, Status> {
 }
 
 /// The engines, all plain.
-fn engines(alloc: Global) -> Option<Vec<Box<dyn Engine + Send>>> {
+fn engines(alloc: Global) -> Option<Vec<Box<dyn Engine + Send>>>
+    ensures { IfSome result (λ engines. vec_len engines ≡ 16) }
+{
     let mut engines: Vec<Box<dyn Engine + Send>> = Vec::new(alloc);
     for _engine in 0..ENGINES {
         let engine = Box::new(alloc, PlainEngine::new()).ok()?;
