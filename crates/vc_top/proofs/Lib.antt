@@ -1,0 +1,15 @@
+mod CallsDone
+mod Carrying
+mod DeviceJobs
+mod Feeds
+mod Grammar
+mod Holding
+mod JobsDone
+mod KeepingJobs
+mod LineTexts
+mod Made
+mod SoFar
+mod Transitions
+mod Whole
+mod OwnLines
+mod Reading

@@ -1,0 +1,310 @@
+-- What a line came to, from what its steps came to.
+use Rattle.std.proofs.Common.{ℕ, zero, suc, ◌≡◌, ◌<◌, ◌≤◌, ◌+◌, ◌⊎◌, min, nat_le, nat_lt, Bool, true, false, cond, Option, Some, None, List, [], ◌∷◌, ◌++◌, length, take, decimal, get_or, set, refl, sym, ap, ◌∙◌, subst, arith, ⊎_elim, append_assoc, length-append}
+use Rattle.std.specs.Prelude.{codes, Result, Ok, Err, IfOk}
+use Rattle.std.specs.List.{filter}
+use Rattle.std.proofs.lemmas.List.{append-nil}
+use Rattle.hex.specs.Hex.{encode_lower}
+use Rattle.vc_base.specs.declared.Side.{Side}
+use Rattle.vc_base.specs.declared.Side.TheVariants.{Out, Cap}
+use Rattle.vc_base.specs.declared.Call.{Call}
+use Rattle.vc_base.specs.declared.Call.TheVariants.{Open, Close, EnumFmt, GetFmt, TryFmt, SetFmt, ReqBufs, CreateBufs, QueryBuf, QBuf, DqBuf, StreamOn, StreamOff, Subscribe, Unsubscribe, DqEvent, DecCmd, EncCmd, GetCtrl, SetCtrl, Poll}
+use Rattle.vc_base.specs.declared.Reply.{Reply}
+use Rattle.vc_base.specs.declared.Reply.TheVariants.{Done, Desc, Fmt, Count, Created, Info, Taken, Happened, Value, Ready, Refused, Blocked}
+use Rattle.vc_base.specs.Counts.{top_count, OneMore, Rose}
+use Rattle.vc_base.specs.Device.{DeviceEvent, call, claim, finish}
+use Rattle.vc_model.specs.Coder.{the_coder}
+use Rattle.vc_model.specs.Devices.{Told, new_device, job_of, device_step, device_after}
+use Rattle.vc_model.specs.Script.{Asked, AsksNothing, AsksCall, AsksClaim, AsksFinish, AsksRun, found_in}
+use Rattle.vc_model.specs.Standing.{CoreState, IsDevice}
+use Rattle.vc_model.proofs.Standing.{after-append}
+use Rattle.vc_queue.specs.Holds.{HoldState, held_payload}
+use Rattle.vc_queue.specs.Cells.{bytes_or_none}
+use Rattle.vc_core.specs.Jobs.{Tells}
+use Rattle.vc_core.specs.declared.job.Job.{Job}
+use Rattle.vc_script.specs.Texts.{HasUsedBytes, reply_text, answer_words, takes_capture, payload_text, flag_text, spaced, call_verb, claim_text}
+use Rattle.vc_script.specs.Verb.{verb_name}
+use Rattle.vc_base.specs.declared.Stamp.{Stamp}
+use Rattle.vc_model.specs.Solo.{Claimed}
+use Rattle.vc_core.specs.Payloads.{empty_hold}
+use Rattle.std.proofs.lemmas.Bool.{true≢false}
+use Rattle.vc_top.specs.declared.desk.Desk.{Desk}
+use Rattle.vc_top.specs.Desks.{after, IsKeptJob, IsAt, IsDesk, IsTaken, front_is, taken_payload, has_bytes, CallDone, ClaimDone, was_busy, was_empty, took, FinishDone, was_idle, ended, ClaimsWith, FinishesWith, IsSomeDesk}
+use Rattle.vc_top.specs.Does.{LineDoes}
+use Rattle.vc_top.specs.Carries.{finishes, RoseBy, IsCounted, LineMade}
+use Rattle.vc_top.proofs.LineTexts.{nothing_does, call_read, call_does, claim_busy, claim_none, claim_took, finish_idles, finish_ends, run_busy, run_none, run_ends}
+
+-- a desk after another history that comes to the same device
+same_at : (n : ℕ) (h g : List DeviceEvent) (core : CoreState) (holds : List HoldState) (jobs : List (Option Job)) → after n h ≡ after n g → IsAt n h core holds jobs → IsAt n g core holds jobs
+same_at n h g core holds jobs e at =
+    record {
+      few = at.few;
+      stands = subst (λ d. IsDevice core 16 d) e at.stands;
+      slots = at.slots;
+      workers = at.workers;
+      users = at.users;
+      fit = at.fit;
+      kept_jobs = at.kept_jobs;
+      kept = λ worker l. subst (λ d. IsKeptJob d worker (get_or jobs worker None)) e (at.kept worker l);
+    }
+
+-- Counts
+
+no_more : (n m : ℕ) → n ≤ m → RoseBy 0 n m
+no_more n m l = omega (arith, l)
+
+one_more : (n m : ℕ) → OneMore n m → RoseBy 1 n m
+one_more n m h = ⊎_elim (λ e. omega (arith, e)) (λ l. omega (arith, l)) h
+
+rose_more : (n m : ℕ) → Rose n m → RoseBy 1 n m
+rose_more n m h = ⊎_elim (λ l. omega (arith, l)) (λ l. omega (arith, l)) h
+
+no_finish : (runs runs' faults faults' : ℕ) → runs ≤ runs' → faults ≤ faults' → IsCounted [] runs runs' faults faults'
+no_finish runs runs' faults faults' a b = record { ran = no_more runs runs' a; failed = no_more faults faults' b }
+
+told_finish : (worker : ℕ) (fault : Bool) (runs runs' faults faults' : ℕ) → Tells fault runs runs' faults faults' → IsCounted (finish worker fault ∷ []) runs runs' faults faults'
+told_finish worker true runs runs' faults faults' t =
+    record { ran = no_more runs runs' t.1; failed = rose_more faults faults' t.0 }
+told_finish worker false runs runs' faults faults' t =
+    record { ran = one_more runs runs' t.0; failed = no_more faults faults' t.2 }
+
+told_run : (worker : ℕ) (fault : Bool) (runs runs' faults faults' : ℕ) → Tells fault runs runs' faults faults' → IsCounted (claim worker ∷ finish worker fault ∷ []) runs runs' faults faults'
+told_run worker fault runs runs' faults faults' t =
+    let c = told_finish worker fault runs runs' faults faults' t in record { ran = c.ran; failed = c.failed }
+
+one_fault : (worker : ℕ) (fault : Bool) → finishes true (finish worker fault ∷ []) ≡ cond fault 1 0
+one_fault worker true = refl
+one_fault worker false = refl
+
+run_fault : (worker : ℕ) (fault : Bool) → finishes true (claim worker ∷ finish worker fault ∷ []) ≡ cond fault 1 0
+run_fault worker true = refl
+run_fault worker false = refl
+
+-- Payloads in the text
+
+taken_words : (b : Bool) (index used flags seq : ℕ) (stamp : Stamp) (xs : List ℕ) → List (List ℕ)
+taken_words b index used flags seq stamp xs =
+    codes "ok" ∷ decimal index ∷ decimal used ∷ flag_text flags ∷ decimal seq ∷ decimal stamp.0 ∷ payload_text b used xs ∷ []
+
+words_same : (request : Call) (reply : Reply) (xs ys : List ℕ) → takes_capture request ≡ false → answer_words request reply xs ≡ answer_words request reply ys
+unfolding taken_words
+words_same request Done xs ys e = refl
+words_same request (Desc fourcc) xs ys e = refl
+words_same request (Fmt f) xs ys e = refl
+words_same request (Count count) xs ys e = refl
+words_same request (Created index count) xs ys e = refl
+words_same request (Info index size flags) xs ys e = refl
+words_same request (Taken index used flags seq stamp) xs ys e =
+    ap (λ b. taken_words b index used flags seq stamp xs) e ∙ sym (ap (λ b. taken_words b index used flags seq stamp ys) e)
+words_same request (Happened event seq changes pending) xs ys e = refl
+words_same request (Value value) xs ys e = refl
+words_same request (Ready read write urgent) xs ys e = refl
+words_same request (Refused errno) xs ys e = refl
+words_same request Blocked xs ys e = refl
+
+take_twice : (n : ℕ) (zs : List ℕ) → take n (take n zs) ≡ take n zs
+take_twice zero zs = refl
+take_twice (suc n) [] = refl
+take_twice (suc n) (z ∷ zs) = ap (λ t. z ∷ t) (take_twice n zs)
+
+front_same : (used : ℕ) (xs ys : List ℕ) → take used xs ≡ ys → payload_text true used xs ≡ payload_text true used ys
+front_same used xs ys e =
+    ap (λ t. cond (nat_lt 0 used) (encode_lower t) (codes "-")) (sym (take_twice used xs) ∙ ap (take used) e)
+
+none_left : (n : ℕ) → nat_le n 0 ≡ true → n ≡ 0
+none_left n e = grind arith
+
+le_of : (a b : ℕ) → nat_le a b ≡ true → a ≤ b
+le_of a b e = grind arith
+
+-- the payload in the hold is shown as the bytes that the device handed out
+payload_shown : (used : ℕ) (handed : List ℕ) (p : Option (List ℕ)) → front_is used handed p → nat_le used (length (bytes_or_none p)) ≡ true → payload_text true used (bytes_or_none p) ≡ payload_text true used handed
+payload_shown used handed None f l =
+    subst (λ n. payload_text true n [] ≡ payload_text true n handed) (sym (none_left used l)) refl
+payload_shown used handed (Some p) f l = front_same used p handed f
+
+words_shown : (request : Call) (reply : Reply) (handed : List ℕ) (hold : HoldState) → IsTaken request reply handed hold → has_bytes request reply (taken_payload request reply hold) ≡ true → answer_words request reply (taken_payload request reply hold) ≡ answer_words request reply handed
+unfolding taken_words
+words_shown (DqBuf Cap block) Done handed hold f l = refl
+words_shown (DqBuf Cap block) (Desc fourcc) handed hold f l = refl
+words_shown (DqBuf Cap block) (Fmt format) handed hold f l = refl
+words_shown (DqBuf Cap block) (Count count) handed hold f l = refl
+words_shown (DqBuf Cap block) (Created index count) handed hold f l = refl
+words_shown (DqBuf Cap block) (Info index size flags) handed hold f l = refl
+words_shown (DqBuf Cap block) (Taken index used flags seq stamp) handed hold f l =
+    ap (λ t. codes "ok" ∷ decimal index ∷ decimal used ∷ flag_text flags ∷ decimal seq ∷ decimal stamp.0 ∷ t ∷ []) (payload_shown used handed (held_payload hold Cap index) f l)
+words_shown (DqBuf Cap block) (Happened event seq changes pending) handed hold f l = refl
+words_shown (DqBuf Cap block) (Value value) handed hold f l = refl
+words_shown (DqBuf Cap block) (Ready read write urgent) handed hold f l = refl
+words_shown (DqBuf Cap block) (Refused errno) handed hold f l = refl
+words_shown (DqBuf Cap block) Blocked handed hold f l = refl
+words_shown (Open kind) reply handed hold f l = words_same (Open kind) reply [] handed refl
+words_shown Close reply handed hold f l = words_same Close reply [] handed refl
+words_shown (EnumFmt side index) reply handed hold f l = words_same (EnumFmt side index) reply [] handed refl
+words_shown (GetFmt side) reply handed hold f l = words_same (GetFmt side) reply [] handed refl
+words_shown (TryFmt side want) reply handed hold f l = words_same (TryFmt side want) reply [] handed refl
+words_shown (SetFmt side want) reply handed hold f l = words_same (SetFmt side want) reply [] handed refl
+words_shown (ReqBufs side count) reply handed hold f l = words_same (ReqBufs side count) reply [] handed refl
+words_shown (CreateBufs side count size) reply handed hold f l = words_same (CreateBufs side count size) reply [] handed refl
+words_shown (QueryBuf side index) reply handed hold f l = words_same (QueryBuf side index) reply [] handed refl
+words_shown (QBuf side index used stamp) reply handed hold f l = words_same (QBuf side index used stamp) reply [] handed refl
+words_shown (DqBuf Out block) reply handed hold f l = words_same (DqBuf Out block) reply [] handed refl
+words_shown (StreamOn side) reply handed hold f l = words_same (StreamOn side) reply [] handed refl
+words_shown (StreamOff side) reply handed hold f l = words_same (StreamOff side) reply [] handed refl
+words_shown (Subscribe event) reply handed hold f l = words_same (Subscribe event) reply [] handed refl
+words_shown (Unsubscribe event) reply handed hold f l = words_same (Unsubscribe event) reply [] handed refl
+words_shown (DqEvent block) reply handed hold f l = words_same (DqEvent block) reply [] handed refl
+words_shown (DecCmd cmd) reply handed hold f l = words_same (DecCmd cmd) reply [] handed refl
+words_shown (EncCmd cmd) reply handed hold f l = words_same (EncCmd cmd) reply [] handed refl
+words_shown (GetCtrl id) reply handed hold f l = words_same (GetCtrl id) reply [] handed refl
+words_shown (SetCtrl id value) reply handed hold f l = words_same (SetCtrl id value) reply [] handed refl
+words_shown Poll reply handed hold f l = words_same Poll reply [] handed refl
+
+pub text_shown : (slot : ℕ) (request : Call) (reply : Reply) (handed : List ℕ) (hold : HoldState) → IsTaken request reply handed hold → has_bytes request reply (taken_payload request reply hold) ≡ true → reply_text slot request reply (taken_payload request reply hold) ≡ reply_text slot request reply handed
+unfolding reply_text
+text_shown slot request reply handed hold f l =
+    ap (λ ws. decimal slot ++ spaced (verb_name (call_verb request) ∷ ws) ++ (10 ∷ [])) (words_shown request reply handed hold f l)
+
+pub bytes_used : (request : Call) (reply : Reply) (hold : HoldState) → has_bytes request reply (taken_payload request reply hold) ≡ true → HasUsedBytes request reply (taken_payload request reply hold)
+bytes_used (DqBuf Cap block) Done hold l = tt
+bytes_used (DqBuf Cap block) (Desc fourcc) hold l = tt
+bytes_used (DqBuf Cap block) (Fmt f) hold l = tt
+bytes_used (DqBuf Cap block) (Count count) hold l = tt
+bytes_used (DqBuf Cap block) (Created index count) hold l = tt
+bytes_used (DqBuf Cap block) (Info index size flags) hold l = tt
+bytes_used (DqBuf Cap block) (Taken index used flags seq stamp) hold l = le_of used (length (bytes_or_none (held_payload hold Cap index))) l
+bytes_used (DqBuf Cap block) (Happened event seq changes pending) hold l = tt
+bytes_used (DqBuf Cap block) (Value value) hold l = tt
+bytes_used (DqBuf Cap block) (Ready read write urgent) hold l = tt
+bytes_used (DqBuf Cap block) (Refused errno) hold l = tt
+bytes_used (DqBuf Cap block) Blocked hold l = tt
+bytes_used (Open kind) reply hold l = tt
+bytes_used Close reply hold l = tt
+bytes_used (EnumFmt side index) reply hold l = tt
+bytes_used (GetFmt side) reply hold l = tt
+bytes_used (TryFmt side want) reply hold l = tt
+bytes_used (SetFmt side want) reply hold l = tt
+bytes_used (ReqBufs side count) reply hold l = tt
+bytes_used (CreateBufs side count size) reply hold l = tt
+bytes_used (QueryBuf side index) reply hold l = tt
+bytes_used (QBuf side index used stamp) reply hold l = tt
+bytes_used (DqBuf Out block) reply hold l = tt
+bytes_used (StreamOn side) reply hold l = tt
+bytes_used (StreamOff side) reply hold l = tt
+bytes_used (Subscribe event) reply hold l = tt
+bytes_used (Unsubscribe event) reply hold l = tt
+bytes_used (DqEvent block) reply hold l = tt
+bytes_used (DecCmd cmd) reply hold l = tt
+bytes_used (EncCmd cmd) reply hold l = tt
+bytes_used (GetCtrl id) reply hold l = tt
+bytes_used (SetCtrl id value) reply hold l = tt
+bytes_used Poll reply hold l = tt
+
+-- Lines
+
+pub call_line : (n : ℕ) (history : List DeviceEvent) (slot : ℕ) (request : Call) (bytes : List ℕ) (told : Reply) (desk : Desk) (text : List ℕ) (runs faults : ℕ) → CallDone n history slot request bytes told desk → has_bytes request told (taken_payload request told (get_or desk.holds.items slot empty_hold)) ≡ true → text ≡ reply_text slot request told (taken_payload request told (get_or desk.holds.items slot empty_hold)) → LineMade n history (AsksCall slot request bytes) text false runs runs faults faults desk
+call_line n history slot request bytes told desk text runs faults done has is =
+    let shown : text ≡ reply_text slot request told done.handed = is ∙ text_shown slot request told done.handed (get_or desk.holds.items slot empty_hold) done.taken has in
+    let plain = reply_text slot request told done.handed in
+    let found = found_in reply_text slot request plain in
+    let d = after n history in
+    let same = (call_read d slot request bytes done.found told done.handed done.handed done.reply done.want).same in
+    let e = call slot request bytes found in
+    let moved : after n (history ++ call slot request bytes done.found ∷ []) ≡ after n (history ++ e ∷ []) = after-append the_coder (new_device n) history (call slot request bytes done.found) ∙ (ap (λ s. s.device) (sym same) ∙ sym (after-append the_coder (new_device n) history e)) in
+    record {
+      events = e ∷ [];
+      does = subst (λ t. LineDoes d (AsksCall slot request bytes) t (e ∷ [])) (sym shown) (call_does d slot request bytes done.found told done.handed done.reply done.want);
+      at = same_at n (history ++ call slot request bytes done.found ∷ []) (history ++ e ∷ []) desk.core desk.holds.items desk.jobs.items moved done.at;
+      counted = record { ran = no_more runs runs (omega arith); failed = no_more faults faults (omega arith) };
+      failed = refl;
+    }
+
+nothing_more : (n : ℕ) (history : List DeviceEvent) (core : CoreState) (holds : List HoldState) (jobs : List (Option Job)) → IsAt n history core holds jobs → IsAt n (history ++ []) core holds jobs
+nothing_more n history core holds jobs at = subst (λ h. IsAt n h core holds jobs) (sym (append-nil history)) at
+
+pub nothing_line : (n : ℕ) (history : List DeviceEvent) (desk : Desk) (runs faults : ℕ) → IsDesk n history desk → LineMade n history AsksNothing [] false runs runs faults faults desk
+nothing_line n history desk runs faults at =
+    record { events = []; does = nothing_does (after n history); at = nothing_more n history _ _ _ at; counted = no_finish runs runs faults faults (omega arith) (omega arith); failed = refl }
+
+pub claim_line : (n : ℕ) (history : List DeviceEvent) (worker : ℕ) (desk : Desk) (claimed : Bool) (text : List ℕ) (runs faults : ℕ) → ClaimDone n history worker desk claimed text → LineMade n history (AsksClaim worker) text false runs runs faults faults desk
+claim_line n history worker desk claimed text runs faults (was_busy k e at) =
+    record { events = []; does = claim_busy (after n history) worker k e; at = nothing_more n history _ _ _ at; counted = no_finish runs runs faults faults (omega arith) (omega arith); failed = refl }
+claim_line n history worker desk claimed text runs faults (was_empty e w r at) =
+    record { events = claim worker ∷ []; does = claim_none (after n history) worker e r; at = at; counted = record { ran = no_more runs runs (omega arith); failed = no_more faults faults (omega arith) }; failed = refl }
+claim_line n history worker desk claimed text runs faults (took k rest e w r at has) =
+    record { events = claim worker ∷ []; does = claim_took (after n history) worker k e r; at = at; counted = record { ran = no_more runs runs (omega arith); failed = no_more faults faults (omega arith) }; failed = refl }
+
+pub finish_line : (n : ℕ) (history : List DeviceEvent) (worker : ℕ) (desk : Desk) (runs runs' faults faults' : ℕ) (fault : Bool) (text : List ℕ) → FinishDone n history worker desk runs runs' faults faults' fault text → LineMade n history (AsksFinish worker) text fault runs runs' faults faults' desk
+finish_line n history worker desk runs runs' faults faults' fault text (was_idle e at a b) =
+    record { events = []; does = finish_idles (after n history) worker e; at = nothing_more n history _ _ _ at; counted = no_finish runs runs' faults faults' a b; failed = refl }
+finish_line n history worker desk runs runs' faults faults' fault text (ended k i j f e r at t) =
+    record { events = finish worker f ∷ []; does = finish_ends (after n history) worker k i j f e r; at = at; counted = told_finish worker f runs runs' faults faults' t; failed = one_fault worker f }
+
+-- a run that took no slot
+pub run_without : (n : ℕ) (history : List DeviceEvent) (worker : ℕ) (desk : Desk) (claimed : Bool) (text : List ℕ) (runs faults : ℕ) → claimed ≡ false → ClaimDone n history worker desk claimed text → LineMade n history (AsksRun worker) text false runs runs faults faults desk
+run_without n history worker desk claimed text runs faults c (was_busy k e at) =
+    record { events = []; does = run_busy (after n history) worker k e; at = nothing_more n history _ _ _ at; counted = no_finish runs runs faults faults (omega arith) (omega arith); failed = refl }
+run_without n history worker desk claimed text runs faults c (was_empty e w r at) =
+    record { events = claim worker ∷ []; does = run_none (after n history) worker e w r; at = at; counted = record { ran = no_more runs runs (omega arith); failed = no_more faults faults (omega arith) }; failed = refl }
+run_without n history worker desk claimed text runs faults c (took k rest e w r at has) = absurd (true≢false c)
+
+run_then : (n : ℕ) (history : List DeviceEvent) (worker k : ℕ) (rest : List ℕ) (desk : Desk) (runs runs' faults faults' : ℕ) (fault : Bool) (text : List ℕ) → job_of (after n history) worker ≡ None → (after n history).waiting ≡ k ∷ rest → (device_step the_coder (after n history) (claim worker)).reply ≡ Told k Claimed → job_of (after n (history ++ claim worker ∷ [])) worker ≡ Some k → FinishDone n (history ++ claim worker ∷ []) worker desk runs runs' faults faults' fault text → LineMade n history (AsksRun worker) (claim_text k ++ text) fault runs runs' faults faults' desk
+run_then n history worker k rest desk runs runs' faults faults' fault text e w r has (was_idle free at a b) =
+    absurd (some_none (sym has ∙ free))
+  where
+    some_none : Some k ≡ None → ⊥
+    some_none p = cc
+run_then n history worker k rest desk runs runs' faults faults' fault text e w r has (ended i m j f h q at t) =
+    record {
+      events = claim worker ∷ finish worker f ∷ [];
+      does = run_ends (after n history) worker k i rest j f e w r (ap (λ d. (device_step the_coder d (finish worker f)).reply) (sym (after-append the_coder (new_device n) history (claim worker))) ∙ q);
+      at = subst (λ es. IsAt n es desk.core desk.holds.items desk.jobs.items) (append_assoc history (claim worker ∷ []) (finish worker f ∷ [])) at;
+      counted = told_run worker f runs runs' faults faults' t;
+      failed = run_fault worker f;
+    }
+
+pub run_with : (n : ℕ) (history : List DeviceEvent) (worker : ℕ) (mid desk : Desk) (claimed : Bool) (front : List ℕ) (runs runs' faults faults' : ℕ) (fault : Bool) (whole : List ℕ) → claimed ≡ true → ClaimDone n history worker mid claimed front → FinishesWith mid worker front whole desk runs runs' faults faults' fault → LineMade n history (AsksRun worker) whole fault runs runs' faults faults' desk
+run_with n history worker mid desk claimed front runs runs' faults faults' fault whole c (was_busy k e at) f = absurd (true≢false (sym c))
+run_with n history worker mid desk claimed front runs runs' faults faults' fault whole c (was_empty e w r at) f = absurd (true≢false (sym c))
+run_with n history worker mid desk claimed front runs runs' faults faults' fault whole c (took k rest e w r at has) f =
+    let g = f n (history ++ claim worker ∷ []) at in
+    subst (λ t. LineMade n history (AsksRun worker) t fault runs runs' faults faults' desk) (sym g.1) (run_then n history worker k rest desk runs runs' faults faults' fault g.0 e w r has g.2)
+
+-- Over the texts of the functions
+
+first_text : (before now text : List ℕ) → before ≡ [] → now ≡ before ++ text → text ≡ now
+first_text before now text e f = sym (f ∙ ap (λ b. b ++ text) e)
+
+claim_of : (n : ℕ) (history : List DeviceEvent) (worker : ℕ) (old mid : Desk) (before now : List ℕ) (claimed : Bool) → before ≡ [] → IsDesk n history old → ClaimsWith old worker before now mid claimed → ClaimDone n history worker mid claimed now
+claim_of n history worker old mid before now claimed e at claims =
+    let x = claims n history at in
+    subst (ClaimDone n history worker mid claimed) (first_text before now x.0 e x.1) x.2
+
+pub claim_text_line : (n : ℕ) (history : List DeviceEvent) (worker : ℕ) (old mid : Desk) (before now : List ℕ) (claimed : Bool) (runs faults : ℕ) → before ≡ [] → IsDesk n history old → ClaimsWith old worker before now mid claimed → LineMade n history (AsksClaim worker) now false runs runs faults faults mid
+claim_text_line n history worker old mid before now claimed runs faults e at claims =
+    claim_line n history worker mid claimed now runs faults (claim_of n history worker old mid before now claimed e at claims)
+
+pub finish_text_line : (n : ℕ) (history : List DeviceEvent) (worker : ℕ) (old desk : Desk) (before now : List ℕ) (runs runs' faults faults' : ℕ) (fault : Bool) → before ≡ [] → IsDesk n history old → FinishesWith old worker before now desk runs runs' faults faults' fault → LineMade n history (AsksFinish worker) now fault runs runs' faults faults' desk
+finish_text_line n history worker old desk before now runs runs' faults faults' fault e at finishes_so =
+    let x = finishes_so n history at in
+    subst (λ t. LineMade n history (AsksFinish worker) t fault runs runs' faults faults' desk) (first_text before now x.0 e x.1) (finish_line n history worker desk runs runs' faults faults' fault x.0 x.2)
+
+pub run_text_line : (n : ℕ) (history : List DeviceEvent) (worker : ℕ) (old mid desk : Desk) (before now whole : List ℕ) (claimed : Bool) (runs runs' faults faults' : ℕ) (fault : Bool) → before ≡ [] → claimed ≡ true → IsDesk n history old → ClaimsWith old worker before now mid claimed → FinishesWith mid worker now whole desk runs runs' faults faults' fault → LineMade n history (AsksRun worker) whole fault runs runs' faults faults' desk
+run_text_line n history worker old mid desk before now whole claimed runs runs' faults faults' fault e c at claims f =
+    run_with n history worker mid desk claimed now runs runs' faults faults' fault whole c (claim_of n history worker old mid before now claimed e at claims) f
+
+pub run_only_line : (n : ℕ) (history : List DeviceEvent) (worker : ℕ) (old mid : Desk) (before now : List ℕ) (claimed : Bool) (runs faults : ℕ) → before ≡ [] → claimed ≡ false → IsDesk n history old → ClaimsWith old worker before now mid claimed → LineMade n history (AsksRun worker) now false runs runs faults faults mid
+run_only_line n history worker old mid before now claimed runs faults e c at claims =
+    run_without n history worker mid claimed now runs faults c (claim_of n history worker old mid before now claimed e at claims)
+
+some_after : (n : ℕ) (history : List DeviceEvent) (worker : ℕ) (mid : Desk) (claimed : Bool) (text : List ℕ) → ClaimDone n history worker mid claimed text → IsSomeDesk mid
+some_after n history worker mid claimed text (was_busy k e at) = (n, history, at)
+some_after n history worker mid claimed text (was_empty e w r at) = (n, history ++ claim worker ∷ [], at)
+some_after n history worker mid claimed text (took k rest e w r at has) = (n, history ++ claim worker ∷ [], at)
+
+pub some_claimed : (worker : ℕ) (old mid : Desk) (before now : List ℕ) (claimed : Bool) → IsSomeDesk old → ClaimsWith old worker before now mid claimed → IsSomeDesk mid
+some_claimed worker old mid before now claimed some claims =
+    let x = claims some.0 some.1 some.2 in some_after some.0 some.1 worker mid claimed x.0 x.2
+
+pub ok_map : {T E : Type 0} (r : Result T E) (P Q : T → Type 0) → ((x : T) → P x → Q x) → IfOk r P → IfOk r Q
+ok_map (Ok x) P Q f h = f x h
+ok_map (Err e) P Q f h = tt

@@ -1,0 +1,56 @@
+-- What the lines of a script ask for, as far as the device is built.
+use Rattle.std.specs.Prelude.{ℕ, ◌<◌, Bool, true, false, if◌then◌else◌, Option, Some, None, List, [], ◌∷◌}
+use Rattle.std.specs.Option.{option_map}
+use Rattle.vc_base.specs.declared.Kind.TheVariants.{Copy, Enc, Dec}
+use Rattle.vc_base.specs.declared.Call.{Call}
+use Rattle.vc_base.specs.declared.Call.TheVariants.{Open}
+use Rattle.vc_script.specs.declared.line.Line.{Line}
+use Rattle.vc_script.specs.declared.line.Line.TheVariants as lines
+use Rattle.vc_script.specs.Lines.{line_of}
+use Rattle.vc_model.specs.Script.{Asked, AsksNothing, AsksCall, AsksClaim, AsksFinish, AsksRun, HasUsedBytes}
+
+-- Contexts that encode and decode aren't built yet: a line that opens one is bad.
+abbrev pub is_built_call : Call → Bool
+is_built_call (Open Copy) = true
+is_built_call (Open Enc) = false
+is_built_call (Open Dec) = false
+is_built_call request = true
+
+abbrev pub is_built : Option Line → Bool
+is_built (Some (lines.Call slot request bytes)) = is_built_call request
+is_built line = true
+
+-- what a line asks for
+abbrev pub asked_of : Option Line → Asked
+asked_of None = AsksNothing
+asked_of (Some (lines.Call slot request bytes)) = AsksCall slot request bytes
+asked_of (Some (lines.Claim worker)) = AsksClaim worker
+asked_of (Some (lines.Finish worker)) = AsksFinish worker
+asked_of (Some (lines.Run worker)) = AsksRun worker
+
+-- a line that the device has, and none else
+abbrev pub only_built : Option (Option Line) → Option (Option Line)
+only_built None = None
+only_built (Some line) = if is_built line then Some line else None
+
+-- what a line asks for, among so many slots; none where the line is bad
+abbrev pub asks_line : ℕ → List ℕ → Option Asked
+asks_line slots line = option_map asked_of (only_built (line_of slots line))
+
+abbrev pub with_rest : Option Asked → Option (List Asked) → Option (List Asked)
+with_rest None rest = None
+with_rest (Some asked) None = None
+with_rest (Some asked) (Some rest) = Some (asked ∷ rest)
+
+-- what the lines of a script ask for; none where one of them is bad
+abbrev pub asks_lines : ℕ → List (List ℕ) → Option (List Asked)
+asks_lines slots [] = Some []
+asks_lines slots (line ∷ rest) = with_rest (asks_line slots line) (asks_lines slots rest)
+
+-- what a line may ask for among n slots
+abbrev pub IsAskedLine : ℕ → Option Line → Type 0
+IsAskedLine n None = Unit {0}
+IsAskedLine n (Some (lines.Call slot request bytes)) = (slot < n) × HasUsedBytes request bytes
+IsAskedLine n (Some (lines.Claim worker)) = worker < 16
+IsAskedLine n (Some (lines.Finish worker)) = worker < 16
+IsAskedLine n (Some (lines.Run worker)) = worker < 16

@@ -1,0 +1,82 @@
+//! The commands, over the words of the command line.
+
+ghost use Rattle.std.specs.Prelude.{◌≡◌, ◌≢◌, ◌<◌, ◌≤◌, ◌↔◌, None, IfSome, map, string_bytes, vec_len, slice_get, drop};
+ghost use Rattle.vc_base.specs.Counts.{Rose};
+ghost use Rattle.vc_top.specs.Ends.{ScriptEnds, Completes};
+ghost use Rattle.vc_top.specs.Words.{script_slots};
+
+use crate::input::{ReadStop, read_script};
+use crate::script::run_lines;
+use crate::status::Status;
+use crate::words::slots_of_words;
+use std::alloc::Global;
+use vc_core::Engine;
+use vc_io::{Sink, Source};
+
+// Reads a script whole and carries out its lines on any engine.
+fn script_on<S: Source, K: Sink, E: Engine>(
+    alloc: Global,
+    slots: u32,
+    source: &mut S,
+    sink: &mut K,
+    engine: &mut E,
+) -> Status
+    requires { (0 < slots) × (slots ≤ 1024) }
+    ensures end { IfSome (S.left source.old) (λ input. ScriptEnds slots input (S.left source.new) (K.written sink.old) (K.written sink.new) (record { runs = E.run_count engine.old; faults = E.fault_count engine.old }) (record { runs = E.run_count engine.new; faults = E.fault_count engine.new }) result) }
+    ensures read { result ≡ Status.ReadFault → Rose (S.faults source.old) (S.faults source.new) }
+    ensures write { result ≡ Status.WriteFault → Rose (K.faults sink.old) (K.faults sink.new) }
+    ensures engine { result ≡ Status.EngineFault → Rose (E.fault_count engine.old) (E.fault_count engine.new) }
+    ensures words { result ≢ Status.Usage }
+    ensures complete { IfSome (S.left source.old) (λ input. Completes slots input (S.faults source.old) (S.faults source.new) (K.faults sink.old) (K.faults sink.new) (E.fault_count engine.old) (E.fault_count engine.new) result) }
+{
+    match read_script(alloc, source) {
+        Ok(script) => run_lines(alloc, slots, &script, sink, engine),
+        Err(ReadStop::ReadFault) => Status::ReadFault,
+        Err(ReadStop::TooLong) => Status::TooLong,
+        Err(ReadStop::NoMemory) => Status::NoMemory,
+    }
+}
+
+/// Reads a script whole, carries out its lines and prints what they answer.
+pub fn script_run<S: Source, K: Sink>(
+    alloc: Global,
+    slots: u32,
+    source: &mut S,
+    sink: &mut K,
+    engine: &mut Box<dyn Engine + Send>,
+) -> Status
+    requires { (0 < slots) × (slots ≤ 1024) }
+    ensures end { IfSome (S.left source.old) (λ input. ScriptEnds slots input (S.left source.new) (K.written sink.old) (K.written sink.new) (record { runs = run_count engine.old; faults = fault_count engine.old }) (record { runs = run_count engine.new; faults = fault_count engine.new }) result) }
+    ensures read { result ≡ Status.ReadFault → Rose (S.faults source.old) (S.faults source.new) }
+    ensures write { result ≡ Status.WriteFault → Rose (K.faults sink.old) (K.faults sink.new) }
+    ensures engine { result ≡ Status.EngineFault → Rose (fault_count engine.old) (fault_count engine.new) }
+    ensures words { result ≢ Status.Usage }
+    ensures complete { IfSome (S.left source.old) (λ input. Completes slots input (S.faults source.old) (S.faults source.new) (K.faults sink.old) (K.faults sink.new) (fault_count engine.old) (fault_count engine.new) result) }
+{
+    script_on(alloc, slots, source, sink, engine)
+}
+
+/// Does all that the program does, on the words behind its name.
+pub fn top<S: Source, K: Sink>(
+    alloc: Global,
+    words: &[String],
+    source: &mut S,
+    sink: &mut K,
+    engines: &mut Vec<Box<dyn Engine + Send>>,
+) -> Status
+    requires { vec_len engines.old ≡ 16 }
+    ensures usage { (result ≡ Status.Usage) ↔ (script_slots (map (λ w. string_bytes w) words.now) ≡ None) }
+    ensures untouched { script_slots (map (λ w. string_bytes w) words.now) ≡ None → (source.new ≡ source.old) × (sink.new ≡ sink.old) × (engines.new ≡ engines.old) }
+    ensures script { IfSome (script_slots (map (λ w. string_bytes w) words.now)) (λ slots. IfSome (S.left source.old) (λ input. IfSome (slice_get engines.old.items 0) (λ before. IfSome (slice_get engines.new.items 0) (λ now. ScriptEnds slots input (S.left source.new) (K.written sink.old) (K.written sink.new) (record { runs = ⟦<Box<dyn Engine + Send> as Engine>⟧.run_count before; faults = ⟦<Box<dyn Engine + Send> as Engine>⟧.fault_count before }) (record { runs = ⟦<Box<dyn Engine + Send> as Engine>⟧.run_count now; faults = ⟦<Box<dyn Engine + Send> as Engine>⟧.fault_count now }) result)))) }
+    ensures read { result ≡ Status.ReadFault → Rose (S.faults source.old) (S.faults source.new) }
+    ensures write { result ≡ Status.WriteFault → Rose (K.faults sink.old) (K.faults sink.new) }
+    ensures engine { result ≡ Status.EngineFault → IfSome (slice_get engines.old.items 0) (λ before. IfSome (slice_get engines.new.items 0) (λ now. Rose (⟦<Box<dyn Engine + Send> as Engine>⟧.fault_count before) (⟦<Box<dyn Engine + Send> as Engine>⟧.fault_count now))) }
+    ensures complete { IfSome (script_slots (map (λ w. string_bytes w) words.now)) (λ slots. IfSome (S.left source.old) (λ input. IfSome (slice_get engines.old.items 0) (λ before. IfSome (slice_get engines.new.items 0) (λ now. Completes slots input (S.faults source.old) (S.faults source.new) (K.faults sink.old) (K.faults sink.new) (⟦<Box<dyn Engine + Send> as Engine>⟧.fault_count before) (⟦<Box<dyn Engine + Send> as Engine>⟧.fault_count now) result)))) }
+    ensures crew { vec_len engines.new ≡ 16 }
+    ensures others { drop 1 engines.new.items ≡ drop 1 engines.old.items }
+{
+    match slots_of_words(words) {
+        Some(slots) => script_run(alloc, slots, source, sink, &mut engines[0]),
+        None => Status::Usage,
+    }
+}

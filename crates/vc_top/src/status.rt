@@ -1,0 +1,20 @@
+/// How a command ended.
+#[derive(Clone, Copy, Debug, PartialEq, Eq)]
+pub enum Status {
+    /// The whole input was carried out and all output was written.
+    Fine,
+    /// The words are none of the command line's grammar.
+    Usage,
+    /// The input could not be read.
+    ReadFault,
+    /// The output could not be written.
+    WriteFault,
+    /// The line, counted from 1, is the first that isn't in the grammar of scripts.
+    BadLine { line: u64 },
+    /// The engine gave up in a job. The script was carried out to its end.
+    EngineFault,
+    /// The script has more than 1,048,576 bytes.
+    TooLong,
+    /// A growth of memory was refused.
+    NoMemory,
+}

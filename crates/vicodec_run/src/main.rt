@@ -1,0 +1,93 @@
+//! The program: a stateful video codec device that is driven by a script on standard input.
+#![tactic(auto)]
+
+ghost use Rattle.std.specs.Prelude.{◌≡◌, IfSome, vec_len};
+
+#[cfg(test)]
+mod tests;
+
+use std::alloc::Global;
+use std::process::ExitCode;
+use std::rt::Env;
+use std::{env, io};
+use vc_core::Engine;
+use vc_engine::PlainEngine;
+use vc_io::{StdSink, StdSource};
+use vc_top::{Status, top};
+
+/// How many engines are handed in.
+const ENGINES: u32 = 16;
+
+/// The words behind the program's name.
+fn words(rt: &(impl Env + Alloc<A = Global>)) -> Result<Vec<String>, Status> {
+    let mut words = Vec::new(rt.alloc());
+    let Ok(args) = env::args(rt) else {
+        return Err(Status::Usage);
+    };
+    for word in args.skip(1) {
+        if words.push(word).is_err() {
+            return Err(Status::NoMemory);
+        }
+    }
+    Ok(words)
+}
+
+/// The engines, all plain.
+fn engines(alloc: Global) -> Option<Vec<Box<dyn Engine + Send>>>
+    ensures { IfSome result (λ engines. vec_len engines ≡ 16) }
+{
+    let mut engines: Vec<Box<dyn Engine + Send>> = Vec::new(alloc);
+    for _engine in 0..ENGINES {
+        let engine = Box::new(alloc, PlainEngine::new()).ok()?;
+        engines.push(engine).ok()?;
+    }
+    Some(engines)
+}
+
+fn run(rt: &HostRuntime) -> Status {
+    let alloc = rt.alloc();
+    let words = match words(rt) {
+        Ok(words) => words,
+        Err(status) => return status,
+    };
+    let Some(mut engines) = engines(alloc) else {
+        return Status::NoMemory;
+    };
+    let mut source = StdSource::new(rt.reader());
+    let mut sink = StdSink::new(io::writer(rt));
+    top(alloc, &words, &mut source, &mut sink, &mut engines)
+}
+
+/// Tells on standard error how the program ended, where it isn't fine.
+fn report(rt: &impl Eprint, status: Status) -> io::Result<()> {
+    match status {
+        Status::Fine => Ok(()),
+        Status::Usage => eprintln!(rt; "vicodec_run: usage"),
+        Status::ReadFault => eprintln!(rt; "vicodec_run: read fault"),
+        Status::WriteFault => eprintln!(rt; "vicodec_run: write fault"),
+        Status::BadLine { line } => eprintln!(rt; "vicodec_run: bad line {line}"),
+        Status::EngineFault => eprintln!(rt; "vicodec_run: engine fault"),
+        Status::TooLong => eprintln!(rt; "vicodec_run: too long"),
+        Status::NoMemory => eprintln!(rt; "vicodec_run: no memory"),
+    }
+}
+
+/// The exit status.
+fn number(status: Status) -> u8 {
+    match status {
+        Status::Fine => 0,
+        Status::Usage => 2,
+        Status::ReadFault => 3,
+        Status::WriteFault => 4,
+        Status::BadLine { .. } => 5,
+        Status::EngineFault => 8,
+        Status::TooLong => 10,
+        Status::NoMemory => 12,
+    }
+}
+
+fn main(rt: HostRuntime) -> ExitCode {
+    let status = run(&rt);
+    let _ = report(&rt, status);
+    ExitCode::from(number(status))
+}

@@ -1,0 +1,173 @@
+//! Scripts through `top`, with sources and sinks in memory.
+
+use crate::engines;
+use std::alloc::Global;
+use std::test::Fail;
+use vc_base::NoMemory;
+use vc_engine::PlainEngine;
+use vc_fault::FailingEngine;
+use vc_io::{MemSink, MemSource};
+use vc_top::{Status, top};
+
+/// What fails at its first call.
+#[derive(Clone, Copy, PartialEq, Eq)]
+enum Failing {
+    Nothing,
+    Source,
+    Sink,
+    Engine,
+}
+
+/// The numbers of the calls that fail: the first, or none.
+fn failing_calls(alloc: Global, fails: bool) -> Result<Vec<u64>, NoMemory> {
+    let mut numbers = Vec::new(alloc);
+    if fails {
+        let Ok(()) = numbers.push(0) else {
+            return Err(NoMemory);
+        };
+    }
+    Ok(numbers)
+}
+
+/// The words of a command line.
+fn words(alloc: Global, line: &[&str]) -> Result<Vec<String>, NoMemory> {
+    let mut words = Vec::new(alloc);
+    for word in line {
+        let copy = String::from_str(alloc, word)?;
+        let Ok(()) = words.push(copy) else {
+            return Err(NoMemory);
+        };
+    }
+    Ok(words)
+}
+
+/// Runs a command line on an input: how it ended, and what it printed.
+fn run(
+    alloc: Global,
+    line: &[&str],
+    input: Vec<u8>,
+    fails: Failing,
+) -> Result<(Status, Vec<u8>), NoMemory> {
+    let words = words(alloc, line)?;
+    let mut source = MemSource::make(input, 4096, failing_calls(alloc, fails == Failing::Source)?);
+    let mut sink = MemSink::make(alloc, 4096, 5, failing_calls(alloc, fails == Failing::Sink)?)?;
+    let Some(mut engines) = engines(alloc) else {
+        return Err(NoMemory);
+    };
+    if fails == Failing::Engine {
+        let engine = FailingEngine::make(failing_calls(alloc, true)?, PlainEngine::new());
+        let Ok(engine) = Box::new(alloc, engine) else {
+            return Err(NoMemory);
+        };
+        engines[0] = engine;
+    }
+    let status = top(alloc, &words, &mut source, &mut sink, &mut engines);
+    Ok((status, sink.into_bytes()))
+}
+
+/// The calls that make one copying context ready for a run, and their answers.
+const READY: &str = "0 open copy\n0 req out 1\n0 req cap 1\n0 q out 0 7 00ff\n0 q cap 0\n0 on out\n0 on cap\n";
+
+const READY_TEXT: &str =
+    "0 open ok\n0 req ok 1\n0 req ok 1\n0 q ok\n0 q ok\n0 on ok\n0 on ok\n";
+
+/// Two texts, one after the other.
+fn joined(alloc: Global, first: &str, second: &str) -> Result<Vec<u8>, NoMemory> {
+    let mut bytes = Vec::new(alloc);
+    bytes.extend_from_slice(first.as_bytes())?;
+    bytes.extend_from_slice(second.as_bytes())?;
+    Ok(bytes)
+}
+
+/// Scripts after those calls, what they print, what fails, and how they end.
+const AFTER_READY: [(&str, &str, Failing, Status); 3] = [
+    (
+        "run 0\n0 dq cap\n0 dq out\n",
+        "0 claim\n0 finish copied\n0 dq ok 0 2 0 0 7 00ff\n0 dq ok 0 2 0 0 7 -\n",
+        Failing::Nothing,
+        Status::Fine,
+    ),
+    (
+        "claim 0\n0 off out\n0 off cap\n0 close\nclaim 0\nfinish 0\n0 off out\n0 dq out\n0 query out 0\n0 dq cap\nfinish 0\n",
+        "0 claim\n0 off blocked\n0 off blocked\n0 close blocked\n- claim busy\n0 finish copied\n0 off ok\n0 dq EINVAL\n0 query ok 0 4096 0\n0 dq ok 0 2 0 0 7 00ff\n- finish idle\n",
+        Failing::Nothing,
+        Status::Fine,
+    ),
+    (
+        "run 0\n0 dq cap\n0 dq out\n",
+        "0 claim\n0 finish fault\n0 dq ok 0 0 40 0 7 -\n0 dq ok 0 2 40 0 7 -\n",
+        Failing::Engine,
+        Status::EngineFault,
+    ),
+];
+
+#[test]
+fn scripts_of_one_slot(rt: HostRuntime) -> Result<(), Fail> {
+    for (script, text, fails, status) in AFTER_READY {
+        let input = joined(rt.alloc(), READY, script)?;
+        let wanted = joined(rt.alloc(), READY_TEXT, text)?;
+        let (ended, printed) = run(rt.alloc(), &["script"], input, fails)?;
+        assert_eq!(rt; printed.as_slice(), wanted.as_slice());
+        assert_eq!(rt; ended, status);
+    }
+    Ok(())
+}
+
+/// Scripts, what they print, and how they end.
+const SCRIPTS: [(&str, &str, Status); 6] = [
+    ("", "", Status::Fine),
+    (
+        "0 open copy\n0 open copy\n0 req out 33\n0 q out 31 1 aa\n0 q out 31 1 aa\n0 q out 32 1 aa\n0 q out 0 1 aa*4097\n0 query out 31\n0 query out 32\n0 req out 0\n0 on out\n1 poll\n0 gctl 1\n0 sub 5\n",
+        "0 open ok\n0 open EBUSY\n0 req ok 32\n0 q ok\n0 q EINVAL\n0 q EINVAL\n0 q EINVAL\n0 query ok 31 4096 2\n0 query EINVAL\n0 req ok 0\n0 on EINVAL\n1 poll ENOTTY\n0 gctl EINVAL\n0 sub EINVAL\n",
+        Status::Fine,
+    ),
+    (
+        "0 open copy\n0 req out 1\n0 req cap 1\n0 q out 0 7 00ff\n0 q cap 0\n0 on out\n0 on cap\n1 open copy\n1 req out 1\n1 req cap 1\n1 q out 0 8 a1\n1 q cap 0\n1 on out\n1 on cap\nrun 0\nrun 0\nrun 0\n",
+        "0 open ok\n0 req ok 1\n0 req ok 1\n0 q ok\n0 q ok\n0 on ok\n0 on ok\n1 open ok\n1 req ok 1\n1 req ok 1\n1 q ok\n1 q ok\n1 on ok\n1 on ok\n0 claim\n0 finish copied\n1 claim\n1 finish copied\n- claim none\n",
+        Status::Fine,
+    ),
+    (
+        "1 open copy\n1 req out 1\n1 req cap 1\n1 q out 0 8 a1\n1 q cap 0\n1 on out\n1 on cap\n0 open copy\n0 req out 1\n0 req cap 1\n0 q out 0 7 00ff\n0 q cap 0\n0 on out\n0 on cap\nrun 0\nrun 0\n",
+        "1 open ok\n1 req ok 1\n1 req ok 1\n1 q ok\n1 q ok\n1 on ok\n1 on ok\n0 open ok\n0 req ok 1\n0 req ok 1\n0 q ok\n0 q ok\n0 on ok\n0 on ok\n1 claim\n1 finish copied\n0 claim\n0 finish copied\n",
+        Status::Fine,
+    ),
+    ("0 open copy\n0 frob\n", "0 open ok\n", Status::BadLine { line: 2 }),
+    ("16 open copy\n", "", Status::BadLine { line: 1 }),
+];
+
+#[test]
+fn whole_scripts(rt: HostRuntime) -> Result<(), Fail> {
+    for (script, text, status) in SCRIPTS {
+        let mut input = Vec::new(rt.alloc());
+        input.extend_from_slice(script.as_bytes())?;
+        let (ended, printed) = run(rt.alloc(), &["script"], input, Failing::Nothing)?;
+        assert_eq!(rt; printed.as_slice(), text.as_bytes());
+        assert_eq!(rt; ended, status);
+    }
+    Ok(())
+}
+
+#[test]
+fn command_lines_and_faults(rt: HostRuntime) -> Result<(), Fail> {
+    let lines: [&[&str]; 4] = [&["play"], &["script", "--slots", "0"], &["script", "--slots=4"], &[]];
+    for line in lines {
+        let (ended, _) = run(rt.alloc(), line, Vec::new(rt.alloc()), Failing::Nothing)?;
+        assert_eq!(rt; ended, Status::Usage);
+    }
+    let causes = [
+        (Failing::Source, Status::ReadFault),
+        (Failing::Sink, Status::WriteFault),
+    ];
+    for (fails, status) in causes {
+        let mut input = Vec::new(rt.alloc());
+        input.extend_from_slice(READY.as_bytes())?;
+        let (ended, printed) = run(rt.alloc(), &["script", "--slots", "1024"], input, fails)?;
+        assert_eq!(rt; ended, status);
+        assert!(rt; printed.is_empty());
+    }
+    let long = vec![in rt.alloc(); b'#'; 1_048_577]?;
+    let (ended, printed) = run(rt.alloc(), &["script"], long, Failing::Nothing)?;
+    assert_eq!(rt; ended, Status::TooLong);
+    assert!(rt; printed.is_empty());
+    Ok(())
+}
