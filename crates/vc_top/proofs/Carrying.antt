@@ -20,28 +20,26 @@ after-both coder d (e ∷ es) fs = after-both coder (device_step coder d e).devi
 
 -- one line more
 pub carried_more : (d : DeviceState) (ls : List Asked) (asked : Asked) (output text : List ℕ) (events mine : List DeviceEvent) → Carried d ls output events → LineDoes (device_after the_coder d events) asked text mine → Carried d (ls ++ asked ∷ []) (output ++ text) (events ++ mine)
-carried_more d [] asked output text events mine c l =
-    (
-      text,
-      mine,
-      [],
-      [],
-      subst (λ es. LineDoes (device_after the_coder d es) asked text mine) c.1 l,
-      (refl, refl),
-      ap (λ o. o ++ text) c.0 ∙ sym (append-nil text),
-      ap (λ es. es ++ mine) c.1 ∙ sym (append-nil mine),
-    )
-carried_more d (first ∷ ls) asked output text events mine c l =
-    (
-      c.0,
-      c.1,
-      c.2 ++ text,
-      c.3 ++ mine,
-      c.4,
-      carried_more (device_after the_coder d c.1) ls asked c.2 text c.3 mine c.5 (subst (λ s. LineDoes s asked text mine) (ap (device_after the_coder d) c.7 ∙ after-both the_coder d c.1 c.3) l),
-      ap (λ o. o ++ text) c.6 ∙ append_assoc c.0 c.2 text,
-      ap (λ es. es ++ mine) c.7 ∙ append_assoc c.1 c.3 mine,
-    )
+carried_more d [] asked output text events mine c l = (
+  text,
+  mine,
+  [],
+  [],
+  subst (λ es. LineDoes (device_after the_coder d es) asked text mine) c.1 l,
+  (refl, refl),
+  ap (λ o. o ++ text) c.0 ∙ sym (append-nil text),
+  ap (λ es. es ++ mine) c.1 ∙ sym (append-nil mine),
+)
+carried_more d (first ∷ ls) asked output text events mine c l = (
+  c.0,
+  c.1,
+  c.2 ++ text,
+  c.3 ++ mine,
+  c.4,
+  carried_more (device_after the_coder d c.1) ls asked c.2 text c.3 mine c.5 (subst (λ s. LineDoes s asked text mine) (ap (device_after the_coder d) c.7 ∙ after-both the_coder d c.1 c.3) l),
+  ap (λ o. o ++ text) c.6 ∙ append_assoc c.0 c.2 text,
+  ap (λ es. es ++ mine) c.7 ∙ append_assoc c.1 c.3 mine,
+)
 
 drop_front : (xs ys : List ℕ) → drop (length xs) (xs ++ ys) ≡ ys
 drop_front [] ys = refl

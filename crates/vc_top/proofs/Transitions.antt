@@ -27,8 +27,6 @@ use Rattle.vc_core.specs.declared.job.Job.{Job}
 use Rattle.vc_core.specs.declared.job.Finished.{Finished as Brought}
 use Rattle.vc_core.proofs.Slots.{nothing_held}
 use Rattle.vc_core.proofs.There.{jobs_are_there}
-use Rattle.vc_work.specs.declared.work.Sort.{Sort}
-use Rattle.vc_work.specs.declared.work.Sort.TheVariants as sort
 use Rattle.vc_top.specs.Desks.{HasData, after, IsKeptJob, IsAt, filled}
 use Rattle.vc_top.proofs.DeviceJobs.{IsOther, data_stays, worker_stays}
 use Rattle.vc_top.proofs.Holding.{filled_fits, answer_same, finished_fits, claimed_fits}
@@ -260,11 +258,11 @@ claim_empty n history core now holds jobs worker at l free none waits step =
 
 -- Finishes
 
-copy_sort : (r : RunSort) (c : CodecState) (s : Sort) → IsSort r c s → r ≡ copy
-copy_sort copy c s h = refl
-copy_sort encode c s h = absurd h
-copy_sort decode c s h = absurd h
-copy_sort probe c s h = absurd h
+copy_sort : (r : RunSort) (c : CodecState) (job : Job) → IsSort r c job.work.sort → r ≡ copy
+copy_sort copy c job h = refl
+copy_sort encode c job h = absurd h
+copy_sort decode c job h = absurd h
+copy_sort probe c job h = absurd h
 
 pub finish_is_of : (n : ℕ) (history : List DeviceEvent) (core : CoreState) (holds : List HoldState) (jobs : List (Option Job)) (worker k : ℕ) (j : JobData) (finished : Brought) (fault : Bool) → IsAt n history core holds jobs → worker < 16 → HasData (after n history) worker k j → Brings k (brought_back the_coder j fault) finished → HasJob core worker k j
 finish_is_of n history core holds jobs worker k j finished fault at l h b =
@@ -310,7 +308,7 @@ finish_made n history core now holds jobs worker k j job fault at l given is has
     let back = brought_back the_coder j fault in
     let l2 : worker < length core.workers = omega (arith, at.workers) in
     let first : core_finish core worker back ≡ core_finish_slot core worker k (slot_of core k) back = ap (λ o. core_finish_of core worker o back) has.of_slot in
-    let ends = slot_ends core worker k j fault (slot_of core k) refl (copy_sort j.sort j.codec job.work.sort is.sort) has.data_there in
+    let ends = slot_ends core worker k j fault (slot_of core k) refl (copy_sort j.sort j.codec job is.sort) has.data_there in
     let device : now ≡ (core_finish_slot core worker k (slot_of core k) back).device = step ∙ ap (λ s. s.device) first in
     let stands = finishes_stand the_coder n 16 core history worker j fault (ap (job_in_slot (after n history)) given.of_slot ∙ given.data_there) at.stands in
     let next : Stands the_coder n 16 now (history ++ finish worker fault ∷ []) = subst (λ c. Stands the_coder n 16 c (history ++ finish worker fault ∷ [])) (sym step) stands.stands in

@@ -27,7 +27,8 @@ fn has_bytes(call: &Call, reply: &Reply, payload: &[u8]) -> bool
     match (call, reply) {
         (
             Call::DqBuf {
-                side: Side::Cap, ..
+                side: Side::Cap,
+                ..
             },
             Reply::Taken { used, .. },
         ) => *used as usize <= payload.len(),

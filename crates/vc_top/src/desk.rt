@@ -93,7 +93,7 @@ impl Desk {
         requires { (0 < slots) × (slots ≤ 1024) }
         ensures desk { IfOk result (λ desk. IsDesk slots [] desk) }
         ensures steps { IfOk result (λ desk. desk.core.steps ≡ 0) }
-{
+    {
         let core = Core::make(alloc, slots, WORKERS)?;
         let holds = empty_holds(alloc, slots)?;
         let jobs = no_jobs(alloc, WORKERS)?;
@@ -108,7 +108,7 @@ impl Desk {
         ensures done { (n : ℕ) (history : List DeviceEvent) → IsDesk n history self.old → HasUsedBytes call.now bytes.now → CallDone n history slot call.now bytes.now result self.new }
         ensures steps { self.new.core.steps ≤ self.old.core.steps + 1 }
         ensures users { length self.new.holds.items ≡ length self.old.holds.items }
-{
+    {
         let hold = &mut self.holds[slot as usize];
         fill(hold, call, bytes);
         self.core.call(slot, call, hold)
@@ -118,11 +118,12 @@ impl Desk {
     pub(crate) fn taken(&self, slot: u32, call: &Call, reply: &Reply) -> &[u8]
         requires slot { slot < length self.now.holds.items }
         ensures { result.now ≡ taken_payload call.now reply.now (get_or self.now.holds.items slot empty_hold) }
-{
+    {
         match (call, reply) {
             (
                 Call::DqBuf {
-                    side: Side::Cap, ..
+                    side: Side::Cap,
+                    ..
                 },
                 Reply::Taken { index, .. },
             ) => payload_or_none(&self.holds[slot as usize], *index),
@@ -134,7 +135,7 @@ impl Desk {
     pub(crate) fn is_busy(&self, worker: u32) -> bool
         requires { worker < length self.now.jobs.items }
         ensures { result ≡ is_some (get_or self.now.jobs.items worker None) }
-{
+    {
         self.jobs[worker as usize].is_some()
     }
 
@@ -145,7 +146,7 @@ impl Desk {
         ensures jobs { self.new.jobs.items ≡ set self.old.jobs.items worker None }
         ensures core { self.new.core ≡ self.old.core }
         ensures holds { self.new.holds ≡ self.old.holds }
-{
+    {
         self.jobs[worker as usize].take()
     }
 }

@@ -50,7 +50,12 @@ fn run(
 ) -> Result<(Status, Vec<u8>), NoMemory> {
     let words = words(alloc, line)?;
     let mut source = MemSource::make(input, 4096, failing_calls(alloc, fails == Failing::Source)?);
-    let mut sink = MemSink::make(alloc, 4096, 5, failing_calls(alloc, fails == Failing::Sink)?)?;
+    let mut sink = MemSink::make(
+        alloc,
+        4096,
+        5,
+        failing_calls(alloc, fails == Failing::Sink)?,
+    )?;
     let Some(mut engines) = engines(alloc) else {
         return Err(NoMemory);
     };
@@ -66,10 +71,10 @@ fn run(
 }
 
 /// The calls that make one copying context ready for a run, and their answers.
-const READY: &str = "0 open copy\n0 req out 1\n0 req cap 1\n0 q out 0 7 00ff\n0 q cap 0\n0 on out\n0 on cap\n";
+const READY: &str =
+    "0 open copy\n0 req out 1\n0 req cap 1\n0 q out 0 7 00ff\n0 q cap 0\n0 on out\n0 on cap\n";
 
-const READY_TEXT: &str =
-    "0 open ok\n0 req ok 1\n0 req ok 1\n0 q ok\n0 q ok\n0 on ok\n0 on ok\n";
+const READY_TEXT: &str = "0 open ok\n0 req ok 1\n0 req ok 1\n0 q ok\n0 q ok\n0 on ok\n0 on ok\n";
 
 /// Two texts, one after the other.
 fn joined(alloc: Global, first: &str, second: &str) -> Result<Vec<u8>, NoMemory> {
@@ -131,7 +136,11 @@ const SCRIPTS: [(&str, &str, Status); 6] = [
         "1 open ok\n1 req ok 1\n1 req ok 1\n1 q ok\n1 q ok\n1 on ok\n1 on ok\n0 open ok\n0 req ok 1\n0 req ok 1\n0 q ok\n0 q ok\n0 on ok\n0 on ok\n1 claim\n1 finish copied\n0 claim\n0 finish copied\n",
         Status::Fine,
     ),
-    ("0 open copy\n0 frob\n", "0 open ok\n", Status::BadLine { line: 2 }),
+    (
+        "0 open copy\n0 frob\n",
+        "0 open ok\n",
+        Status::BadLine { line: 2 },
+    ),
     ("16 open copy\n", "", Status::BadLine { line: 1 }),
 ];
 
@@ -149,7 +158,12 @@ fn whole_scripts(rt: HostRuntime) -> Result<(), Fail> {
 
 #[test]
 fn command_lines_and_faults(rt: HostRuntime) -> Result<(), Fail> {
-    let lines: [&[&str]; 4] = [&["play"], &["script", "--slots", "0"], &["script", "--slots=4"], &[]];
+    let lines: [&[&str]; 4] = [
+        &["play"],
+        &["script", "--slots", "0"],
+        &["script", "--slots=4"],
+        &[],
+    ];
     for line in lines {
         let (ended, _) = run(rt.alloc(), line, Vec::new(rt.alloc()), Failing::Nothing)?;
         assert_eq!(rt; ended, Status::Usage);
