@@ -1,8 +1,6 @@
 //! The program: a stateful video codec device that is driven by a script on standard input.
 #![tactic(auto)]
 
-ghost use Rattle.std.specs.Prelude.{◌≡◌, IfSome, vec_len};
-
 #[cfg(test)]
 mod tests;
 
@@ -15,7 +13,7 @@ use vc_engine::PlainEngine;
 use vc_io::{StdSink, StdSource};
 use vc_top::{Status, top};
 
-/// How many engines are handed in.
+/// How many engines are handed in, all plain.
 const ENGINES: u32 = 16;
 
 /// The words behind the program's name.
@@ -32,27 +30,21 @@ fn words(rt: &(impl Env + Alloc<A = Global>)) -> Result<Vec<String>, Status> {
     Ok(words)
 }
 
-/// The engines, all plain.
-fn engines(alloc: Global) -> Option<Vec<Box<dyn Engine + Send>>>
-    ensures { IfSome result (λ engines. vec_len engines ≡ 16) }
-{
-    let mut engines: Vec<Box<dyn Engine + Send>> = Vec::new(alloc);
-    for _engine in 0..ENGINES {
-        let engine = Box::new(alloc, PlainEngine::new()).ok()?;
-        engines.push(engine).ok()?;
-    }
-    Some(engines)
-}
-
 fn run(rt: &HostRuntime) -> Status {
     let alloc = rt.alloc();
     let words = match words(rt) {
         Ok(words) => words,
         Err(status) => return status,
     };
-    let Some(mut engines) = engines(alloc) else {
-        return Status::NoMemory;
-    };
+    let mut engines: Vec<Box<dyn Engine + Send>> = Vec::new(alloc);
+    for _engine in 0..ENGINES {
+        let Ok(engine) = Box::new(alloc, PlainEngine::new()) else {
+            return Status::NoMemory;
+        };
+        if engines.push(engine).is_err() {
+            return Status::NoMemory;
+        }
+    }
     let mut source = StdSource::new(rt.reader());
     let mut sink = StdSink::new(io::writer(rt));
     top(alloc, &words, &mut source, &mut sink, &mut engines)

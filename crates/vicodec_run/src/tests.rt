@@ -1,9 +1,9 @@
 //! Scripts through `top`, with sources and sinks in memory.
 
-use crate::engines;
 use std::alloc::Global;
 use std::test::Fail;
 use vc_base::NoMemory;
+use vc_core::Engine;
 use vc_engine::PlainEngine;
 use vc_fault::FailingEngine;
 use vc_io::{MemSink, MemSource};
@@ -56,9 +56,15 @@ fn run(
         5,
         failing_calls(alloc, fails == Failing::Sink)?,
     )?;
-    let Some(mut engines) = engines(alloc) else {
-        return Err(NoMemory);
-    };
+    let mut engines: Vec<Box<dyn Engine + Send>> = Vec::new(alloc);
+    for _engine in 0..16u32 {
+        let Ok(engine) = Box::new(alloc, PlainEngine::new()) else {
+            return Err(NoMemory);
+        };
+        let Ok(()) = engines.push(engine) else {
+            return Err(NoMemory);
+        };
+    }
     if fails == Failing::Engine {
         let engine = FailingEngine::make(failing_calls(alloc, true)?, PlainEngine::new());
         let Ok(engine) = Box::new(alloc, engine) else {
