@@ -4,7 +4,7 @@ ghost use Rattle.std.specs.Prelude.{◌≡◌, ◌<◌, length, IsTrue, None};
 ghost use Rattle.vc_base.specs.declared.Side.TheVariants.{Out};
 ghost use Rattle.vc_model.specs.Devices.{slot_of, job_of};
 ghost use Rattle.vc_queue.specs.Holds.{HoldState, held_payload, HasRoom};
-ghost use Rattle.vc_core.specs.Payloads.{FitsSlot};
+ghost use Rattle.vc_context.specs.Payloads.{FitsSlot};
 
 use std::alloc::Global;
 use std::process::Abort;

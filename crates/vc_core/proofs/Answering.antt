@@ -6,7 +6,8 @@ use Rattle.vc_base.specs.declared.Reply.{Reply}
 use Rattle.vc_base.specs.Buffers.{QueueState}
 use Rattle.vc_model.specs.Context.{Context}
 use Rattle.vc_model.specs.Answer.{Answer, dqevent_answer}
-use Rattle.vc_core.specs.Contexts.{Gives, GivesWithMemory, copier_state, refused_or_blocked}
+use Rattle.vc_context.specs.Contexts.{Gives, GivesWithMemory, refused_or_blocked}
+use Rattle.vc_core.specs.Copying.{copier_state}
 
 pub always : (f : Bool → Answer) (a : Answer) (reply : Reply) (c : Context) → f true ≡ a → Gives a reply c → GivesWithMemory f reply c
 always f a reply c e g =

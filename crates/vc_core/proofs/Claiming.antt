@@ -10,7 +10,8 @@ use Rattle.vc_model.specs.Core.{claimed_in}
 use Rattle.vc_queue.specs.declared.queue.Lent.{Lent}
 use Rattle.vc_queue.specs.Lending.{IsLent, IsLentFrom}
 use Rattle.vc_queue.specs.Releasing.{front_ordinal}
-use Rattle.vc_core.specs.Contexts.{data_bytes, copier_state, job_mark, AreFilled, has_work, IsKept, IsStep}
+use Rattle.vc_context.specs.Contexts.{AreFilled, has_work, IsKept, IsStep}
+use Rattle.vc_core.specs.Copying.{data_bytes, copier_state, job_mark}
 use Rattle.vc_core.specs.Jobs.{IsGiven, IsDest, RunsIn, RunsWith, claimed_data}
 
 -- when a job can be claimed

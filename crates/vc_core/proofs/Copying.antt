@@ -21,8 +21,9 @@ use Rattle.vc_model.specs.Answer.{desc_answer, answered, unless, if_found, query
 use Rattle.vc_queue.specs.Answers.{answer_of, after_of, front_taken, queued_bytes}
 use Rattle.vc_queue.specs.Growing.{with_memory, AnswersWithMemory}
 use Rattle.vc_queue.specs.Holds.{HoldState}
-use Rattle.vc_core.specs.Contexts.{data_formats, data_bytes, copier_state, Gives, GivesWithMemory, IsKept, told_of, taken_or_blocked}
-use Rattle.vc_core.specs.Payloads.{handed_over}
+use Rattle.vc_context.specs.Contexts.{Gives, GivesWithMemory, IsKept, told_of, taken_or_blocked}
+use Rattle.vc_core.specs.Copying.{data_formats, data_bytes, copier_state}
+use Rattle.vc_context.specs.Payloads.{handed_over}
 
 -- the settling of a context without a drain
 

@@ -20,9 +20,9 @@ use Rattle.vc_jobs.specs.Jobs.{Jobs}
 use Rattle.vc_jobs.specs.Jobs as jobs
 use Rattle.vc_core.specs.declared.job.Job.{Job}
 use Rattle.vc_core.specs.declared.job.Finished as job
-use Rattle.vc_core.specs.Contexts.{IsKeptSlot, IsCountedSlot, IsStepOfSlot, SlotHasRoom, IsAnswer, claimed_slot, finished_slot}
+use Rattle.vc_core.specs.Slots.{IsKeptSlot, IsCountedSlot, IsStepOfSlot, SlotHasRoom, IsAnswer, claimed_slot, finished_slot}
 use Rattle.vc_core.specs.Jobs.{IsJobWith, RunsWith, HasJob, RunsInSlot, Brings, IsJobOfWorker, IsOfWorker}
-use Rattle.vc_core.specs.Payloads.{handed_over, FitsSlot}
+use Rattle.vc_context.specs.Payloads.{handed_over, FitsSlot}
 use Rattle.vc_core.specs.Steps.{IsCall, IsCore, slot_at}
 
 -- the two lists of waiting slots are one

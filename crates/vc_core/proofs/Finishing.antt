@@ -10,7 +10,8 @@ use Rattle.vc_model.specs.Runs.{JobData, dest_done, RunResult, copied, encoded, 
 use Rattle.vc_model.specs.Core.{BroughtBack, back_effect, finished_context}
 use Rattle.vc_queue.specs.declared.queue.Lent.{Lent}
 use Rattle.vc_core.specs.declared.job.Finished.{Finished}
-use Rattle.vc_core.specs.Contexts.{copier_state, IsKept}
+use Rattle.vc_context.specs.Contexts.{IsKept}
+use Rattle.vc_core.specs.Copying.{copier_state}
 use Rattle.vc_core.specs.Jobs.{Brings, IsReturned, IsDestReturned, IsResult, IsCopied, HasNoCodec, brought_used, brought_flags}
 use Rattle.vc_core.proofs.Copying.{settled}
 

@@ -8,8 +8,8 @@ use Rattle.vc_base.specs.Buffers.{QueueState, new_queue, without_job_bytes, lend
 use Rattle.vc_model.specs.Context.{Context, Slot}
 use Rattle.vc_queue.specs.Holds.{HoldState, Fits, held_payload, with_payload, HasRoom, written_over}
 use Rattle.vc_queue.proofs.Keeping.{fits_lent, fits_retired}
-use Rattle.vc_core.specs.Contexts.{copier_state}
-use Rattle.vc_core.specs.Payloads.{FitsContext, FitsSlot}
+use Rattle.vc_core.specs.Copying.{copier_state}
+use Rattle.vc_context.specs.Payloads.{FitsContext, FitsSlot}
 
 written_length : (o : Option (List ℕ)) (bytes : List ℕ) → HasRoom o bytes → option_map length (written_over o bytes) ≡ option_map length o
 written_length None bytes h = absurd h

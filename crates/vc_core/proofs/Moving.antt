@@ -12,8 +12,9 @@ use Rattle.vc_model.specs.Context.{Context}
 use Rattle.vc_queue.specs.Answers.{answer_of, front_taken, HandsBack}
 use Rattle.vc_queue.specs.Holds.{HoldState, Fits, held_payload}
 use Rattle.vc_queue.specs.Payloads.{payload_at}
-use Rattle.vc_core.specs.Contexts.{copier_state, IsKept, taken_or_blocked}
-use Rattle.vc_core.specs.Payloads.{FitsContext, Moves, front_bytes}
+use Rattle.vc_context.specs.Contexts.{IsKept, taken_or_blocked}
+use Rattle.vc_core.specs.Copying.{copier_state}
+use Rattle.vc_context.specs.Payloads.{FitsContext, Moves, front_bytes}
 
 out_at : (size : ℕ) (out cap : QueueState) (running block s : Bool) (ds : List Buffer) (old new : HoldState) → out.done ≡ ds → let o : Option Errno = refuse_if (not s) Inval (refuse_if false Pipe (refuse_if (is_empty ds) Again None)) in HandsBack o Out ds old new → Moves (Some (copier_state size out cap running)) (DqBuf Out block) (taken_or_blocked block (answer_of o (front_taken ds))) old new
 out_at size out cap running true false ds old new e h = h

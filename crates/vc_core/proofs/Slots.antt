@@ -17,8 +17,9 @@ use Rattle.vc_core.specs.declared.slot.Content.{Content}
 use Rattle.vc_core.specs.declared.slot.Content.TheVariants.{Closed, Copying}
 use Rattle.vc_core.specs.declared.copier.Copier.{Copier}
 use Rattle.vc_core.specs.Contents.{slot_state}
-use Rattle.vc_core.specs.Contexts.{GivesWithMemory, IsAnswer, opened_kind}
-use Rattle.vc_core.specs.Payloads.{HoldsNothing, FitsContext, FitsSlot, empty_hold}
+use Rattle.vc_context.specs.Contexts.{GivesWithMemory}
+use Rattle.vc_core.specs.Slots.{IsAnswer, opened_kind}
+use Rattle.vc_context.specs.Payloads.{HoldsNothing, FitsContext, FitsSlot, empty_hold}
 
 pub closed_view : (content : Content) (s : Slot) → slot_state content ≡ s → content ≡ Closed → s ≡ None
 closed_view content s view e = sym view ∙ ap slot_state e

@@ -12,7 +12,8 @@ use Rattle.vc_base.specs.declared.Stamp.{Stamp}
 use Rattle.vc_base.specs.Buffers.{Buffer, QueueState, refuse_if, reqbufs_after, create_after, qbuf_refusal, qbuf_after, queue_held, queued_buffer, with_index, held_refusal, dqbuf_after, take_front}
 use Rattle.vc_model.specs.Context.{Context}
 use Rattle.vc_queue.specs.Answers.{after_of}
-use Rattle.vc_core.specs.Contexts.{AreFilled, copier_state, IsKept, IsStep}
+use Rattle.vc_context.specs.Contexts.{AreFilled, IsKept, IsStep}
+use Rattle.vc_core.specs.Copying.{copier_state}
 
 -- what a call makes of one queue
 pub record Goes (old new : QueueState) : Type 0 where

@@ -9,7 +9,7 @@ use Rattle.vc_model.specs.Runs.{JobData}
 use Rattle.vc_model.specs.Standing.{CoreState, Stands, worker_job}
 use Rattle.vc_queue.specs.Holds.{HoldState, held_payload, with_payload, HasRoom, written_over}
 use Rattle.vc_core.specs.Jobs.{HasJob}
-use Rattle.vc_core.specs.Payloads.{FitsSlot}
+use Rattle.vc_context.specs.Payloads.{FitsSlot}
 
 -- Where a core stands for a history, the data of a worker's job are those of the history.
 abbrev pub JobsAreThere : Type 0

@@ -1,6 +1,6 @@
 pub mod Contents
-pub mod Contexts
+pub mod Copying
 pub mod Jobs
 pub mod Laws
-pub mod Payloads
+pub mod Slots
 pub mod Steps

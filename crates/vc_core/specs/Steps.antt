@@ -14,8 +14,8 @@ use Rattle.vc_model.specs.Standing.{CoreState}
 use Rattle.vc_model.specs.Core.{core_call}
 use Rattle.vc_jobs.specs.Jobs.{Jobs}
 use Rattle.vc_queue.specs.Holds.{HoldState}
-use Rattle.vc_core.specs.Contexts.{IsKeptSlot, IsCountedSlot}
-use Rattle.vc_core.specs.Payloads.{handed_over}
+use Rattle.vc_core.specs.Slots.{IsKeptSlot, IsCountedSlot}
+use Rattle.vc_context.specs.Payloads.{handed_over}
 
 -- A call on slot k is a step of the core, with memory or without it. Where memory was not found the reply
 -- says so.

@@ -19,9 +19,10 @@ ghost use Rattle.vc_model.specs.Core.{BroughtBack, finished_context, claimed_in,
 ghost use Rattle.vc_core.specs.Steps.{TakesMemory};
 ghost use Rattle.vc_model.specs.Runs.{is_claimable, after_claim};
 ghost use Rattle.vc_model.specs.Standing.{without_job};
-ghost use Rattle.vc_core.specs.Contexts.{HasRoom, data_bytes, data_formats, Gives, GivesWithMemory, IsKept, IsStep, is_close, told_of, refused_or_blocked, taken_or_blocked, has_work};
+ghost use Rattle.vc_context.specs.Contexts.{HasRoom, Gives, GivesWithMemory, IsKept, IsStep, is_close, told_of, refused_or_blocked, taken_or_blocked, has_work};
+ghost use Rattle.vc_core.specs.Copying.{data_bytes, data_formats};
 ghost use Rattle.vc_core.specs.Jobs.{IsJobWith, RunsWith, Brings, RunsIn, IsOfContext, brought_used, brought_flags};
-ghost use Rattle.vc_core.specs.Payloads.{FitsContext, Moves, handed_over};
+ghost use Rattle.vc_context.specs.Payloads.{FitsContext, Moves, handed_over};
 
 use crate::job::{Finished, Job};
 use std::alloc::Global;
@@ -57,7 +58,7 @@ pub(crate) struct Copier {
 
 impl Model for Copier {
     ghost use Rattle.vc_model.specs.Context.{Context};
-    ghost use Rattle.vc_core.specs.Contexts.{copier_state};
+    ghost use Rattle.vc_core.specs.Copying.{copier_state};
 
     ghost Value = { Context };
 

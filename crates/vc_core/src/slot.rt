@@ -9,10 +9,11 @@ ghost use Rattle.vc_model.specs.Answer.{closed_answer};
 ghost use Rattle.vc_core.specs.Steps.{TakesMemory};
 ghost use Rattle.vc_model.specs.Runs.{is_claimable};
 ghost use Rattle.vc_model.specs.Context.{fresh_context};
-ghost use Rattle.vc_core.specs.Contexts.{IsKeptSlot, IsStepOfSlot, SlotHasRoom, IsAnswer, opened_kind, is_close, claimed_slot, finished_slot};
+ghost use Rattle.vc_context.specs.Contexts.{is_close};
+ghost use Rattle.vc_core.specs.Slots.{IsKeptSlot, IsStepOfSlot, SlotHasRoom, IsAnswer, opened_kind, claimed_slot, finished_slot};
 ghost use Rattle.vc_core.specs.Jobs.{IsJobWith, RunsWith, IsOfSlot, RunsInSlot, Brings};
 ghost use Rattle.vc_queue.specs.Holds.{HoldState};
-ghost use Rattle.vc_core.specs.Payloads.{FitsSlot, Moves, handed_over};
+ghost use Rattle.vc_context.specs.Payloads.{FitsSlot, Moves, handed_over};
 
 use crate::copier::Copier;
 use crate::job::{Finished, Job};

@@ -18,7 +18,7 @@ use Rattle.vc_model.specs.Standing.{CoreState}
 use Rattle.vc_model.specs.Core.{core_call}
 use Rattle.vc_model.specs.Script.{HasUsedBytes}
 use Rattle.vc_queue.specs.Holds.{HoldState, held_payload}
-use Rattle.vc_core.specs.Payloads.{FitsSlot, Moves, HandsOut, handed_out, front_bytes, empty_hold, handed_over}
+use Rattle.vc_context.specs.Payloads.{FitsSlot, Moves, HandsOut, handed_out, front_bytes, empty_hold, handed_over}
 use Rattle.vc_core.specs.Steps.{IsCall}
 use Rattle.vc_core.specs.declared.job.Job.{Job}
 use Rattle.vc_top.specs.declared.desk.Desk.{Desk}

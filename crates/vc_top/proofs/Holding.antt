@@ -25,7 +25,7 @@ use Rattle.vc_queue.specs.Holds.{HoldState, held_payload, with_payload, written_
 use Rattle.vc_queue.specs.Answers.{queued_bytes}
 use Rattle.vc_queue.specs.Cells.{bytes_or_none}
 use Rattle.vc_queue.proofs.Keeping.{fits_lent, fits_retired}
-use Rattle.vc_core.specs.Payloads.{FitsContext, HoldsNothing, FitsSlot, handed_over}
+use Rattle.vc_context.specs.Payloads.{FitsContext, HoldsNothing, FitsSlot, handed_over}
 use Rattle.vc_top.specs.Desks.{has_room, filled_at, filled}
 
 -- Finishes and claims

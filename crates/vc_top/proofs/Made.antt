@@ -25,7 +25,7 @@ use Rattle.vc_script.specs.Texts.{HasUsedBytes, reply_text, answer_words, takes_
 use Rattle.vc_script.specs.Verb.{verb_name}
 use Rattle.vc_base.specs.declared.Stamp.{Stamp}
 use Rattle.vc_model.specs.Solo.{Claimed}
-use Rattle.vc_core.specs.Payloads.{empty_hold}
+use Rattle.vc_context.specs.Payloads.{empty_hold}
 use Rattle.std.proofs.lemmas.Bool.{true≢false}
 use Rattle.vc_top.specs.declared.desk.Desk.{Desk}
 use Rattle.vc_top.specs.Desks.{after, IsKeptJob, IsAt, IsDesk, IsTaken, front_is, taken_payload, has_bytes, CallDone, ClaimDone, was_busy, was_empty, took, FinishDone, was_idle, ended, ClaimsWith, FinishesWith, IsSomeDesk}

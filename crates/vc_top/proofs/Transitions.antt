@@ -20,7 +20,7 @@ use Rattle.vc_model.proofs.Standing.{after-append, new_core_stands, calls_stand,
 use Rattle.vc_model.proofs.CoreSound.{cores_are_sound}
 use Rattle.vc_model.proofs.Isolating.{is_there, closed_at_first}
 use Rattle.vc_queue.specs.Holds.{HoldState}
-use Rattle.vc_core.specs.Payloads.{FitsContext, FitsSlot, empty_hold, handed_over}
+use Rattle.vc_context.specs.Payloads.{FitsContext, FitsSlot, empty_hold, handed_over}
 use Rattle.vc_core.specs.Jobs.{IsJobOf, IsSort, Brings, HasJob, IsOfWorker, RunsInSlot, RunsIn, IsClaim}
 use Rattle.vc_core.specs.Steps.{IsCall}
 use Rattle.vc_core.specs.declared.job.Job.{Job}

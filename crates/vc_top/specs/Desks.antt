@@ -15,7 +15,7 @@ use Rattle.vc_model.specs.Devices.{DeviceState, Told, NoJob, new_device, slot_of
 use Rattle.vc_model.specs.Standing.{CoreState, Stands, job_in}
 use Rattle.vc_queue.specs.Holds.{HoldState, held_payload, with_payload, written_over}
 use Rattle.vc_queue.specs.Cells.{bytes_or_none}
-use Rattle.vc_core.specs.Payloads.{FitsSlot, empty_hold}
+use Rattle.vc_context.specs.Payloads.{FitsSlot, empty_hold}
 use Rattle.vc_core.specs.Jobs.{IsJobOf, Tells}
 use Rattle.vc_core.specs.declared.job.Job.{Job}
 use Rattle.vc_script.specs.Texts.{claim_text, no_claim_text, busy_text, finish_text, idle_text}

@@ -6,7 +6,7 @@ ghost use Rattle.vc_base.specs.Device.{DeviceEvent};
 ghost use Rattle.vc_model.specs.Script.{HasUsedBytes};
 ghost use Rattle.vc_queue.specs.Cells.{bytes_or_none};
 ghost use Rattle.vc_queue.specs.Holds.{held_payload};
-ghost use Rattle.vc_core.specs.Payloads.{empty_hold};
+ghost use Rattle.vc_context.specs.Payloads.{empty_hold};
 ghost use Rattle.vc_top.specs.Desks.{IsDesk, IsSomeDesk, CallDone, has_room, filled, taken_payload};
 
 use std::alloc::Global;

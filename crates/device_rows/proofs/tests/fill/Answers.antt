@@ -2,7 +2,7 @@ use Rattle.std.proofs.Common.{sym, subst, rules}
 use Rattle.vc_base.specs.declared.Side.TheVariants.{Out}
 use Rattle.vc_model.specs.Devices.{slot_of}
 use Rattle.vc_queue.specs.Holds.{HoldState}
-use Rattle.vc_core.specs.Payloads.{FitsSlot}
+use Rattle.vc_context.specs.Payloads.{FitsSlot}
 use Rattle.vc_core.proofs.Fitting.{fits_written}
 use Rattle.device_rows.proofs.tests.fill.Goals as goal
 

@@ -1,6 +1,6 @@
 use Rattle.std.proofs.Common.{◌≡◌, ◌<◌, length}
 use Rattle.vc_model.specs.Devices.{slot_of}
-use Rattle.vc_core.specs.Payloads.{FitsSlot}
+use Rattle.vc_context.specs.Payloads.{FitsSlot}
 use Rattle.device_rows.proofs.tests.replies.Given as goal
 
 abbrev pub invariant-loop-call : goal.invariant-loop-call

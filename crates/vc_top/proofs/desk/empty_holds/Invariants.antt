@@ -1,5 +1,5 @@
 use Rattle.std.proofs.Common.{◌≡◌, replicate}
-use Rattle.vc_core.specs.Payloads.{empty_hold}
+use Rattle.vc_context.specs.Payloads.{empty_hold}
 use Rattle.vc_top.proofs.desk.empty_holds.Given as goal
 
 abbrev pub invariant-loop-hold : goal.invariant-loop-hold

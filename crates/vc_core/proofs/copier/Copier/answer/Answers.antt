@@ -2,7 +2,8 @@ use Rattle.std.proofs.Common.{refl}
 use Rattle.vc_base.specs.declared.Errno.TheVariants.{Busy, NoEnt, NoTty, Inval}
 use Rattle.vc_base.specs.declared.Reply.TheVariants.{Refused}
 use Rattle.vc_model.specs.Answer.{context_answer, refused, dqevent_answer}
-use Rattle.vc_core.specs.Contexts.{copier_state, refused_or_blocked}
+use Rattle.vc_context.specs.Contexts.{refused_or_blocked}
+use Rattle.vc_core.specs.Copying.{copier_state}
 use Rattle.vc_core.proofs.Answering.{always, no_event}
 use Rattle.vc_core.proofs.copier.Copier.answer.Goals as goal
 

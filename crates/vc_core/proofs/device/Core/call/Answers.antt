@@ -1,6 +1,6 @@
 use Rattle.std.proofs.Common.{◌+◌, ◌<◌, length, sym, subst}
 use Rattle.vc_model.specs.Standing.{CoreState}
-use Rattle.vc_core.specs.Payloads.{handed_over}
+use Rattle.vc_context.specs.Payloads.{handed_over}
 use Rattle.vc_core.proofs.Cores.{call_keeps, call_steps, others_at}
 use Rattle.vc_core.proofs.device.Core.call.Goals as goal
 

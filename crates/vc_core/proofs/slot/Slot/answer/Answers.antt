@@ -4,8 +4,9 @@ use Rattle.vc_base.specs.declared.Call.TheVariants.{Open}
 use Rattle.vc_base.specs.declared.Reply.TheVariants.{Refused}
 use Rattle.vc_model.specs.Context.{Context, Slot}
 use Rattle.vc_model.specs.Answer.{context_answer}
-use Rattle.vc_core.specs.Contexts.{GivesWithMemory, IsAnswer}
-use Rattle.vc_core.specs.Payloads.{handed_over}
+use Rattle.vc_context.specs.Contexts.{GivesWithMemory}
+use Rattle.vc_core.specs.Slots.{IsAnswer}
+use Rattle.vc_context.specs.Payloads.{handed_over}
 use Rattle.vc_core.proofs.Slots.{closed_view, copying_view, open_answers, closed_refuses, opened_fits}
 use Rattle.vc_core.proofs.slot.Slot.answer.Goals as goal
 

@@ -1,6 +1,6 @@
 use Rattle.std.proofs.Common.{◌<◌, length, get_or, refl, sym, ap, ◌∙◌, subst, arith}
 use Rattle.vc_model.specs.Devices.{slot_of}
-use Rattle.vc_core.specs.Payloads.{FitsSlot, empty_hold}
+use Rattle.vc_context.specs.Payloads.{FitsSlot, empty_hold}
 use Rattle.vc_top.specs.Desks.{filled}
 use Rattle.vc_top.proofs.Holding.{filled_fits}
 use Rattle.vc_top.proofs.CallsDone.{place_is, call_done}

@@ -1,6 +1,6 @@
 use Rattle.std.proofs.Common.{None, replicate, sym, subst, arith, []}
 use Rattle.vc_model.specs.Core.{new_core}
-use Rattle.vc_core.specs.Payloads.{empty_hold}
+use Rattle.vc_context.specs.Payloads.{empty_hold}
 use Rattle.vc_top.specs.Desks.{IsAt}
 use Rattle.vc_top.proofs.Transitions.{first_desk}
 use Rattle.vc_top.proofs.desk.Desk.make.Goals as goal

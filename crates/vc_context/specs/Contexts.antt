@@ -1,4 +1,4 @@
--- What contexts keep, beside what the jobs have.
+-- What every kind of context keeps and tells.
 use Rattle.std.specs.Prelude.{ℕ, ◌≡◌, ◌≤◌, ◌<◌, ◌+◌, ◌^◌, nat_le, Bool, true, false, not, ◌&&◌, Option, Some, None, Result, Ok, Err, List, []}
 use Rattle.std.specs.List.{list_all}
 use Rattle.std.specs.Option.{option_map}
@@ -22,41 +22,11 @@ use Rattle.vc_model.specs.Runs.{after_claim}
 use Rattle.vc_model.specs.Core.{BroughtBack, finished_context}
 use Rattle.vc_model.specs.Standing.{some_job, without_job}
 
--- the format with buffers of that size
-abbrev pub data_bytes : ℕ → Format
-data_bytes size = record { fourcc = data_format; width = 0; height = 0; size = size }
-
--- the formats of a copying context with buffers of that size
-abbrev pub data_formats : ℕ → FormatPair
-data_formats size = record { out = data_bytes size; cap = data_bytes size }
-
--- whether a job runs
-abbrev pub job_mark : Bool → Option Running
-job_mark true = Some some_job
-job_mark false = None
-
--- A copying context. It has no geometry, no controls, no events and no codec, and never drains.
-abbrev pub copier_state : ℕ → QueueState → QueueState → Bool → Context
-copier_state size out cap running =
-    record {
-      kind = Copy;
-      formats = data_formats size;
-      geometry = None;
-      rates = record { gop = 10; iqp = 20; pqp = 20 };
-      out = out;
-      cap = cap;
-      phase = run;
-      mark = None;
-      events = no_events;
-      codec = no_codec;
-      running = job_mark running;
-    }
-
 -- each buffer has room for what is used of it
 abbrev pub AreFilled : List Buffer → Type 0
 AreFilled bs = list_all (λ b. nat_le b.used b.size) bs ≡ true
 
--- What holds of every context that a core keeps.
+-- What holds of every context that a device keeps.
 pub record IsKept (c : Context) : Type 0 where
   pub out_side : c.out.side ≡ Out
   pub cap_side : c.cap.side ≡ Cap
@@ -70,6 +40,7 @@ pub record IsCounted (bound : ℕ) (c : Context) : Type 0 where
   pub cap_queued : c.cap.next_ordinal ≤ bound
   pub out_done : c.out.next_seq ≤ bound
   pub cap_done : c.cap.next_seq ≤ bound
+  pub raised : c.events.next_seq ≤ bound
 
 -- The context is kept, and counted up by one at most.
 pub record IsStep (old new : Context) : Type 0 where
@@ -108,52 +79,14 @@ taken_or_blocked block (Err errno) = refused_or_blocked block errno
 abbrev pub has_work : QueueState → Bool
 has_work q = q.streams && not (is_empty q.ready)
 
--- Slots
-
-abbrev pub IsKeptSlot : Slot → Type 0
-IsKeptSlot None = Unit {0}
-IsKeptSlot (Some c) = IsKept c
-
-abbrev pub IsCountedSlot : ℕ → Slot → Type 0
-IsCountedSlot bound None = Unit {0}
-IsCountedSlot bound (Some c) = IsCounted bound c
-
--- The slot is kept, and what counts up in it did so by one at most.
-pub record IsStepOfSlot (old new : Slot) : Type 0 where
-  pub kept : IsKeptSlot new
-  pub counted : (bound : ℕ) → IsCountedSlot bound old → IsCountedSlot (bound + 1) new
-
 -- no number of the context is at its end
 pub record HasRoom (c : Context) : Type 0 where
   pub out_queued : c.out.next_ordinal < 2 ^ 62
   pub cap_queued : c.cap.next_ordinal < 2 ^ 62
   pub out_done : c.out.next_seq < 2 ^ 62
   pub cap_done : c.cap.next_seq < 2 ^ 62
-
-abbrev pub SlotHasRoom : Slot → Type 0
-SlotHasRoom None = Unit {0}
-SlotHasRoom (Some c) = HasRoom c
-
--- The slot gave this answer, with memory or without it. Where memory was not found the reply says so.
-pub record IsAnswer (old : Slot) (request : Call) (bytes : List ℕ) (told : Reply) (new : Slot) : Type 0 where
-  pub found : Bool
-  pub reply : (answer old request bytes found).reply ≡ told
-  pub slot : (answer old request bytes found).slot ≡ new
-  pub want : found ≡ false → told ≡ Refused NoMem
-
--- the kind of context that the call opens
-abbrev pub opened_kind : Call → Option Kind
-opened_kind (Open kind) = Some kind
-opened_kind request = None
+  pub raised : c.events.next_seq < 2 ^ 62
 
 abbrev pub is_close : Call → Bool
 is_close Close = true
 is_close request = false
-
--- the slot after the claim of its job
-abbrev pub claimed_slot : Slot → Slot
-claimed_slot s = option_map (λ c. without_job (after_claim c)) s
-
--- the slot after the end of the job that is brought back
-abbrev pub finished_slot : Slot → BroughtBack → Slot
-finished_slot s back = option_map (λ c. finished_context c back) s
