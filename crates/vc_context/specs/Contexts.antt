@@ -1,26 +1,16 @@
 -- What every kind of context keeps and tells.
-use Rattle.std.specs.Prelude.{ℕ, ◌≡◌, ◌≤◌, ◌<◌, ◌+◌, ◌^◌, nat_le, Bool, true, false, not, ◌&&◌, Option, Some, None, Result, Ok, Err, List, []}
+use Rattle.std.specs.Prelude.{ℕ, ◌≡◌, ◌≤◌, ◌<◌, ◌+◌, ◌^◌, nat_le, Bool, true, false, not, ◌&&◌, Some, None, Result, Ok, Err, List, []}
 use Rattle.std.specs.List.{list_all}
-use Rattle.std.specs.Option.{option_map}
 use Rattle.vc_base.specs.declared.Side.TheVariants.{Out, Cap}
-use Rattle.vc_base.specs.declared.Kind.{Kind}
-use Rattle.vc_base.specs.declared.Kind.TheVariants.{Copy}
 use Rattle.vc_base.specs.declared.Errno.{Errno}
 use Rattle.vc_base.specs.declared.Errno.TheVariants.{NoEnt, Again, NoMem}
 use Rattle.vc_base.specs.declared.Call.{Call}
-use Rattle.vc_base.specs.declared.Call.TheVariants.{Open, Close}
+use Rattle.vc_base.specs.declared.Call.TheVariants.{Close}
 use Rattle.vc_base.specs.declared.Reply.{Reply}
 use Rattle.vc_base.specs.declared.Reply.TheVariants.{Refused, Blocked}
-use Rattle.vc_base.specs.declared.Format.{Format}
 use Rattle.vc_base.specs.Buffers.{Buffer, QueueState, is_empty}
-use Rattle.vc_base.specs.Events.{no_events}
-use Rattle.vc_model.specs.Formats.{FormatPair, data_format}
-use Rattle.vc_model.specs.Coder.{no_codec}
-use Rattle.vc_model.specs.Context.{Context, Slot, Running, run}
-use Rattle.vc_model.specs.Answer.{Answer, answer}
-use Rattle.vc_model.specs.Runs.{after_claim}
-use Rattle.vc_model.specs.Core.{BroughtBack, finished_context}
-use Rattle.vc_model.specs.Standing.{some_job, without_job}
+use Rattle.vc_model.specs.Context.{Context}
+use Rattle.vc_model.specs.Answer.{Answer}
 
 -- each buffer has room for what is used of it
 abbrev pub AreFilled : List Buffer → Type 0

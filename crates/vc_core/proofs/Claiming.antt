@@ -135,7 +135,7 @@ module _ (size : ℕ) (out cap : QueueState) (running : Bool) (c : Context) (vie
       let k = subst (λ (x : Context). IsKept x) (sym view) kept in
       let step : IsStep (copier_state size out cap running) (copier_state size (without_job_bytes (lend_after out)) (without_job_bytes (lend_after cap)) true) = record {
         kept = record { out_side = lent_side out out.ready ∙ k.out_side; cap_side = lent_side cap cap.ready ∙ k.cap_side; filled = lent_filled out out.ready refl k.filled; out_idle = λ e. cc; cap_idle = λ e. cc };
-        counted = λ bound n. record { out_queued = omega (arith, lent_queued out out.ready, n.out_queued); cap_queued = omega (arith, lent_queued cap cap.ready, n.cap_queued); out_done = omega (arith, lent_seq out out.ready, n.out_done); cap_done = omega (arith, lent_seq cap cap.ready, n.cap_done) };
+        counted = λ bound n. record { out_queued = omega (arith, lent_queued out out.ready, n.out_queued); cap_queued = omega (arith, lent_queued cap cap.ready, n.cap_queued); out_done = omega (arith, lent_seq out out.ready, n.out_done); cap_done = omega (arith, lent_seq cap cap.ready, n.cap_done); raised = omega (arith, n.raised) };
       } in
       rw (eo, ec, ← view) step
 

@@ -84,12 +84,12 @@ listed_at slots ks k s h there j w =
 pub has_room : (s : Slot) (steps : ℕ) → IsCountedSlot steps s → steps < 2 ^ 62 → SlotHasRoom s
 has_room None steps n h = tt
 has_room (Some c) steps n h =
-    record { out_queued = omega (arith, n.out_queued, h); cap_queued = omega (arith, n.cap_queued, h); out_done = omega (arith, n.out_done, h); cap_done = omega (arith, n.cap_done, h) }
+    record { out_queued = omega (arith, n.out_queued, h); cap_queued = omega (arith, n.cap_queued, h); out_done = omega (arith, n.out_done, h); cap_done = omega (arith, n.cap_done, h); raised = omega (arith, n.raised, h) }
 
 more_counted : (s : Slot) (a b : ℕ) → a ≤ b → IsCountedSlot a s → IsCountedSlot b s
 more_counted None a b h n = tt
 more_counted (Some c) a b h n =
-    record { out_queued = omega (arith, n.out_queued, h); cap_queued = omega (arith, n.cap_queued, h); out_done = omega (arith, n.out_done, h); cap_done = omega (arith, n.cap_done, h) }
+    record { out_queued = omega (arith, n.out_queued, h); cap_queued = omega (arith, n.cap_queued, h); out_done = omega (arith, n.out_done, h); cap_done = omega (arith, n.cap_done, h); raised = omega (arith, n.raised, h) }
 
 steps_at : (reply : Reply) → (steps_of reply ≡ 1) ⊎ (reply ≡ Blocked)
 steps_at Blocked = inr refl

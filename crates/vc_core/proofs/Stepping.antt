@@ -74,14 +74,14 @@ pub step_out : (size : ℕ) (out cap new : QueueState) (running : Bool) (c : Con
 step_out size out cap new running c view =
     subst (λ (x : Context). IsKept x → Goes out new → AreFilled new.ready → IsStep x (copier_state size new cap running)) view (λ k g f. record {
       kept = record { out_side = g.side ∙ k.out_side; cap_side = k.cap_side; filled = f; out_idle = λ e. g.idle (k.out_idle e); cap_idle = k.cap_idle };
-      counted = λ bound n. record { out_queued = omega (arith, g.queued, n.out_queued); cap_queued = omega (arith, n.cap_queued); out_done = omega (arith, g.retired, n.out_done); cap_done = omega (arith, n.cap_done) };
+      counted = λ bound n. record { out_queued = omega (arith, g.queued, n.out_queued); cap_queued = omega (arith, n.cap_queued); out_done = omega (arith, g.retired, n.out_done); cap_done = omega (arith, n.cap_done); raised = omega (arith, n.raised) };
     })
 
 pub step_cap : (size : ℕ) (out cap new : QueueState) (running : Bool) (c : Context) → copier_state size out cap running ≡ c → IsKept c → Goes cap new → IsStep c (copier_state size out new running)
 step_cap size out cap new running c view =
     subst (λ (x : Context). IsKept x → Goes cap new → IsStep x (copier_state size out new running)) view (λ k g. record {
       kept = record { out_side = k.out_side; cap_side = g.side ∙ k.cap_side; filled = k.filled; out_idle = k.out_idle; cap_idle = λ e. g.idle (k.cap_idle e) };
-      counted = λ bound n. record { out_queued = omega (arith, n.out_queued); cap_queued = omega (arith, g.queued, n.cap_queued); out_done = omega (arith, n.out_done); cap_done = omega (arith, g.retired, n.cap_done) };
+      counted = λ bound n. record { out_queued = omega (arith, n.out_queued); cap_queued = omega (arith, g.queued, n.cap_queued); out_done = omega (arith, n.out_done); cap_done = omega (arith, g.retired, n.cap_done); raised = omega (arith, n.raised) };
     })
 
 new_goes : (q : QueueState) (count size : ℕ) → Goes q (reqbufs_after q count size)
