@@ -1,0 +1,125 @@
+-- What a job takes out of its context, and what comes back of it: the data of the model and the work of the code.
+-- The runs are docs/DEVICE.md, "Runs".
+use Rattle.std.specs.Prelude.{ℕ, ◌≡◌, length, take, map, is_some, true, Option, Some, None, Result, Ok, Err, List, [], ◌∷◌}
+use Rattle.vc_base.specs.Buffers.{Buffer, without_bytes}
+use Rattle.vc_defs.specs.Encoder.{RunRates}
+use Rattle.vc_model.specs.Coder.{CodecState, no_codec}
+use Rattle.vc_model.specs.Context.{Context, Running, RunSort, copy}
+use Rattle.vc_model.specs.Runs.{JobData, RunResult, copied}
+use Rattle.vc_model.specs.Core.{BroughtBack}
+use Rattle.vc_model.specs.Sound.{HasCodec as HasCodecOfKind, IsRunOf, dest_count}
+use Rattle.vc_work.specs.Runs.{dest_bytes}
+use Rattle.vc_work.specs.declared.work.Sort.{Sort}
+use Rattle.vc_work.specs.declared.work.Sort.TheVariants as sort
+use Rattle.vc_work.specs.declared.work.Piece.{Piece}
+use Rattle.vc_work.specs.declared.work.Rates.{Rates}
+use Rattle.vc_work.specs.declared.work.Work.{Work}
+use Rattle.vc_work.specs.declared.engine.Outcome.{Outcome}
+use Rattle.vc_work.specs.declared.engine.Outcome.TheVariants.{Copied}
+use Rattle.vc_work.specs.declared.engine.EngineFault.{EngineFault}
+
+-- The work of a job
+
+-- the sort of the run
+abbrev pub IsSort : RunSort → Sort → Type 0
+IsSort copy sort.Copy = Unit {0}
+IsSort run mine = ⊥
+
+abbrev pub rates_of : Rates → RunRates
+rates_of r = record { gop = r.gop; iqp = r.iqp; pqp = r.pqp }
+
+-- The source is the buffer, with a payload of its size.
+pub record IsSource (b : Buffer) (piece : Piece) : Type 0 where
+  pub used : piece.used ≡ b.used
+  pub cursor : piece.cursor ≡ b.cursor
+  pub stamp : piece.stamp ≡ b.stamp
+  pub bytes : take b.used piece.payload.items ≡ b.bytes
+  pub size : length piece.payload.items ≡ b.size
+
+-- no destination for no buffer, and for one buffer a payload of its size
+abbrev pub IsDest : List Buffer → Option (List ℕ) → Type 0
+IsDest [] None = Unit {0}
+IsDest (b ∷ []) (Some payload) = length payload ≡ b.size
+IsDest bs payload = ⊥
+
+-- the state of the codec, as a run of the sort has it
+abbrev pub HasState : CodecState → Sort → Type 0
+HasState no_codec sort.Copy = Unit {0}
+HasState codec mine = ⊥
+
+abbrev pub HasCodec : CodecState → Work → Type 0
+HasCodec codec work = HasState codec work.sort
+
+-- The work has the data of the job.
+pub record IsWork (j : JobData) (work : Work) : Type 0 where
+  pub sort : IsSort j.sort work.sort
+  pub codec : HasCodec j.codec work
+  pub source : IsSource j.source work.source
+  pub dest : IsDest j.dest (dest_bytes work)
+  pub format : work.format ≡ j.format
+  pub limit : work.limit ≡ j.limit
+  pub rates : rates_of work.rates ≡ j.rates
+
+-- the work has the data, where there are any
+abbrev pub IsWorkWith : Option JobData → Work → Type 0
+IsWorkWith None work = ⊥
+IsWorkWith (Some j) work = IsWork j work
+
+-- The job in its context
+
+-- what the job took from its context beside buffers and codec state
+abbrev pub running_data : JobData → Running
+running_data j =
+    record { sort = j.sort; geometry = j.geometry; format = j.format; limit = j.limit; rates = j.rates }
+
+-- A job with these data runs in the context: its buffers are in the job there, and it took what the context
+-- still has.
+pub record RunsIn (c : Context) (j : JobData) : Type 0 where
+  pub running : is_some c.running ≡ true
+  pub source : c.out.job ≡ without_bytes j.source ∷ []
+  pub dest : c.cap.job ≡ map without_bytes j.dest
+  pub dests : length j.dest ≡ dest_count j.sort
+  pub codec : HasCodecOfKind c.kind j.codec
+  pub run : IsRunOf c.kind c.formats c.geometry (running_data j)
+
+-- a job with the data runs in the context, where there are any
+abbrev pub RunsInWith : Context → Option JobData → Type 0
+RunsInWith c None = ⊥
+RunsInWith c (Some j) = RunsIn c j
+
+-- What comes back
+
+-- The source comes back as it was queued, with a payload of its size. What it holds is told by the result.
+pub record IsSourceBack (b : Buffer) (piece : Piece) : Type 0 where
+  pub used : piece.used ≡ b.used
+  pub stamp : piece.stamp ≡ b.stamp
+  pub size : length piece.payload.items ≡ b.size
+
+-- the bytes stand at the front of the destination
+abbrev pub HasFront : List ℕ → Option (List ℕ) → Type 0
+HasFront bytes None = ⊥
+HasFront bytes (Some payload) = take (length bytes) payload ≡ bytes
+
+-- the bytes were copied, and the source has its own
+pub record IsCopiedBack (bytes : List ℕ) (source : Buffer) (work : Work) (used : ℕ) : Type 0 where
+  pub told : used ≡ length bytes
+  pub front : HasFront bytes (dest_bytes work)
+  pub source_bytes : take source.used work.source.payload.items ≡ source.bytes
+
+-- the run came to this result, or the engine gave up
+abbrev pub IsResult : Option RunResult → JobData → Work → Result Outcome EngineFault → Type 0
+IsResult None j work (Err fault) = Unit {0}
+IsResult (Some (copied bytes)) j work (Ok (Copied used)) = IsCopiedBack bytes j.source work used
+IsResult back j work result = ⊥
+
+-- What is brought back of a job is this work, with this result of its run.
+pub record IsBack (back : BroughtBack) (work : Work) (result : Result Outcome EngineFault) : Type 0 where
+  pub source : IsSourceBack back.job.source work.source
+  pub dest : IsDest back.job.dest (dest_bytes work)
+  pub came_to : IsResult back.result back.job work result
+
+-- What is brought back is of the job that runs in the context.
+pub record IsBackOf (c : Context) (work : Work) (result : Result Outcome EngineFault) : Type 0 where
+  pub back : BroughtBack
+  pub runs : RunsIn c back.job
+  pub is_back : IsBack back work result
