@@ -14,7 +14,7 @@ use Rattle.vc_work.specs.declared.work.Sort.{Sort}
 use Rattle.vc_work.specs.declared.work.Sort.TheVariants as sort
 use Rattle.vc_work.specs.declared.work.Work.{Work}
 use Rattle.vc_work.specs.declared.engine.Outcome.{Outcome}
-use Rattle.vc_work.specs.declared.engine.Outcome.TheVariants.{Copied}
+use Rattle.vc_work.specs.declared.engine.Outcome.TheVariants.{Copied, Encoded}
 use Rattle.vc_work.specs.declared.engine.EngineFault.{EngineFault}
 use Rattle.vc_work.specs.Runs.{IsRun, Does, IsCopied as IsCopiedWork, KeepsLengths, dest_bytes, copied_over, copied_length}
 use Rattle.vc_core.specs.declared.job.Job.{Job}
@@ -23,6 +23,7 @@ use Rattle.vc_core.specs.Jobs.{IsJobOf, IsBrought, Brings, IsSort, IsDest, IsDes
 
 sort_copies : (s : RunSort) (codec : CodecState) (mine : Sort) → IsSort s codec mine → (s ≡ copy) × HasNoCodec codec
 sort_copies copy no_codec sort.Copy h = (refl, tt)
+sort_copies copy no_codec sort.Encode h = absurd h
 sort_copies copy (encoder state) mine h = absurd h
 sort_copies copy (decoder state) mine h = absurd h
 sort_copies encode codec mine h = absurd h
@@ -87,6 +88,19 @@ module _ (k : ℕ) (j : JobData) (job : Job) (done : Work) (f : Finished) (h : I
     where
       copy_run : (s : Sort) → Does s job.work done (Copied count) → IsCopiedWork job.work done count
       copy_run sort.Copy d = d
+      copy_run sort.Encode d = absurd d
+
+  encoded_never : (used : ℕ) (key : Bool) → IsRun job.work done (Encoded used key) → ⊥
+  encoded_never used key r = copies_only j.sort j.codec job.work.sort h.sort r.done
+    where
+      copies_only : (s : RunSort) (codec : CodecState) (mine : Sort) → IsSort s codec mine → Does mine job.work done (Encoded used key) → ⊥
+      copies_only copy no_codec sort.Copy h d = d
+      copies_only copy no_codec sort.Encode h d = h
+      copies_only copy (encoder state) mine h d = h
+      copies_only copy (decoder state) mine h d = h
+      copies_only encode codec mine h d = h
+      copies_only decode codec mine h d = h
+      copies_only probe codec mine h d = h
 
   pub brings : (fault : Bool) → IsResult (result_of the_coder j fault) j.source f.outcome f.source f.dest → Brings k (brought_back the_coder j fault) f
   brings fault result =
@@ -104,6 +118,7 @@ module _ (k : ℕ) (j : JobData) (job : Job) (done : Work) (f : Finished) (h : I
       subst (λ (o : Option Outcome). IsResult (result_of the_coder j (is_none o)) j.source o f.source f.dest) (sym c) refl
   result_there (Ok (Copied count)) c r =
       subst (λ (o : Option Outcome). IsResult (result_of the_coder j (is_none o)) j.source o f.source f.dest) (sym c) (subst (λ (s : RunSort). IsResult (Some (run_of the_coder j s)) j.source (Some (Copied count)) f.source f.dest) (sym (sort_copies j.sort j.codec job.work.sort h.sort).0) (copied_there count c r))
+  result_there (Ok (Encoded used key)) c r = absurd (encoded_never used key r)
 
   pub run_brings : (r : Result Outcome EngineFault) → came ≡ result_ok r → IfOk r (IsRun job.work done) → Brings k (brought_back the_coder j (is_fault f)) f
   run_brings r c ran =

@@ -20,7 +20,7 @@ use Rattle.vc_work.specs.declared.work.Piece.{Piece}
 use Rattle.vc_work.specs.declared.work.Rates.{Rates}
 use Rattle.vc_work.specs.declared.work.Work.{Work}
 use Rattle.vc_work.specs.declared.engine.Outcome.{Outcome}
-use Rattle.vc_work.specs.declared.engine.Outcome.TheVariants.{Copied}
+use Rattle.vc_work.specs.declared.engine.Outcome.TheVariants.{Copied, Encoded}
 use Rattle.vc_core.specs.declared.job.Job.{Job}
 use Rattle.vc_core.specs.declared.job.Finished.{Finished}
 
@@ -94,6 +94,7 @@ IsDestReturned bs lent = ⊥
 -- how many bytes of the destination are used, and its flags, after a run or where the engine gave up
 abbrev pub brought_used : Option Outcome → ℕ
 brought_used (Some (Copied used)) = used
+brought_used (Some (Encoded used key)) = used
 brought_used None = 0
 
 abbrev pub brought_flags : Option Outcome → ℕ

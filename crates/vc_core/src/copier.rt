@@ -151,7 +151,7 @@ fn brought(outcome: Option<Outcome>) -> (u32, u32)
     ensures { result ≡ (brought_used outcome, brought_flags outcome) }
 {
     match outcome {
-        Some(Outcome::Copied { used }) => (used, 0),
+        Some(Outcome::Copied { used } | Outcome::Encoded { used, .. }) => (used, 0),
         None => (0, ERROR),
     }
 }

@@ -1,6 +1,7 @@
 //! A job that was claimed, and what is brought back of it.
 
 ghost use Rattle.std.specs.Prelude.{◌≡◌, ◌≤◌, ℕ, IsTrue, is_some, true, vec_len};
+ghost use Rattle.vc_work.specs.declared.work.Sort.TheVariants.{Copy};
 
 use vc_base::{Format, Stamp};
 use vc_queue::queue::Lent;
@@ -15,6 +16,7 @@ pub struct Job {
     pub(crate) work: Work,
     pub ghost filled: { work.source.used ≤ vec_len work.source.payload },
     pub ghost has_dest: { IsTrue (is_some work.dest) },
+    pub ghost copies: { work.sort ≡ Copy },
 }
 
 /// What is brought back of a job: its buffers, and what the run came to, or nothing where the engine gave
@@ -84,6 +86,8 @@ impl Job {
                 sort: Sort::Copy,
                 source,
                 dest: Some(dest_payload),
+                reference: None,
+                geometry: None,
                 format,
                 limit: format.size,
                 rates,
@@ -153,6 +157,8 @@ impl Finished {
             sort: _,
             source: piece,
             dest: payload,
+            reference: _,
+            geometry: _,
             format: _,
             limit: _,
             rates: _,
@@ -174,6 +180,7 @@ impl Finished {
     {
         match self.outcome {
             Some(Outcome::Copied { .. }) => "copied",
+            Some(Outcome::Encoded { .. }) => "encoded",
             None => "fault",
         }
     }

@@ -65,6 +65,7 @@ impl Engine for PlainEngine {
     {
         let used = match work.sort {
             Sort::Copy => run_copy(work),
+            Sort::Encode => return Err(EngineFault),
         };
         self.runs = self.runs.saturating_add(1);
         Ok(Outcome::Copied { used })

@@ -11,6 +11,8 @@ use crate::work::Work;
 pub enum Outcome {
     /// So many bytes stand at the front of the destination.
     Copied { used: u32 },
+    /// A frame of so many bytes stands at the front of the destination; `key` where it is an I frame.
+    Encoded { used: u32, key: bool },
 }
 
 /// The engine gave up. Nothing is known of the bytes of the work then.

@@ -1,12 +1,16 @@
 //! What a job works on.
 
+use crate::reference::Reference;
 use vc_base::{Format, Stamp};
+use vc_defs::Geometry;
 
 /// What is to be done in a run.
 #[derive(Clone, Copy, Debug, PartialEq, Eq)]
 pub enum Sort {
     /// The bytes of the source go to the destination as they are.
     Copy,
+    /// The picture of the source becomes the next frame of an encoder.
+    Encode,
 }
 
 /// An OUTPUT buffer on its way through a job. Of its payload the first `used` bytes count, and a decoder
@@ -28,13 +32,18 @@ pub struct Rates {
     pub pqp: u32,
 }
 
-/// All that a run needs. The destination is the payload of a CAPTURE buffer; every copy run has one.
-/// `format` is the format that counts in the run, `limit` the size of OUTPUT's buffers in bytes.
+/// All that a run needs. The destination is the payload of a CAPTURE buffer; every copy run and every encode
+/// run has one. `reference` is what the codec keeps from frame to frame, which every encode run needs, and
+/// `geometry` the decoder's geometry, once it is known. `format` is the format that counts in the run, that of
+/// OUTPUT in an encode run and that of CAPTURE in every other one; `limit` is the size of OUTPUT's buffers in
+/// bytes.
 #[derive(Drop)]
 pub struct Work {
     pub sort: Sort,
     pub source: Piece,
     pub dest: Option<Vec<u8>>,
+    pub reference: Option<Reference>,
+    pub geometry: Option<Geometry>,
     pub format: Format,
     pub limit: u32,
     pub rates: Rates,
