@@ -10,7 +10,7 @@ use Rattle.vc_model.specs.Runs.{JobData, RunResult, copied, encoded}
 use Rattle.vc_model.specs.Core.{BroughtBack}
 use Rattle.vc_model.specs.Sound.{HasCodec as HasCodecOfKind, IsRunOf, dest_count}
 use Rattle.vc_work.specs.References.{CodecReference}
-use Rattle.vc_work.specs.Runs.{dest_bytes, run_rates}
+use Rattle.vc_work.specs.Runs.{dest_bytes, run_rates, format_geometry, HasGeometry}
 use Rattle.vc_work.specs.declared.work.Sort.{Sort}
 use Rattle.vc_work.specs.declared.work.Sort.TheVariants as sort
 use Rattle.vc_work.specs.declared.work.Piece.{Piece}
@@ -93,6 +93,11 @@ abbrev pub RunsInWith : Context → Option JobData → Type 0
 RunsInWith c None = ⊥
 RunsInWith c (Some j) = RunsIn c j
 
+-- the buffer in the job, where there is one, has the index
+abbrev pub IsIndexOf : ℕ → List Buffer → Type 0
+IsIndexOf index [] = Unit {0}
+IsIndexOf index (b ∷ rest) = b.index ≡ index
+
 -- What comes back
 
 -- The source comes back as it was queued, with a payload of its size. What it holds is told by the result.
@@ -112,11 +117,12 @@ pub record HasBytes (bytes : List ℕ) (source : Buffer) (work : Work) (used : �
   pub front : HasFront bytes (dest_bytes work)
   pub source_bytes : take source.used work.source.payload.items ≡ source.bytes
 
--- the frame stands there, and the reference has the state after it
-pub record HasFrame (frame : EncodedFrame) (source : Buffer) (work : Work) (used : ℕ) (key : Bool) : Type 0 where
-  pub bytes : HasBytes frame.bytes source work used
+-- The frame stands there, and the reference has the state after it, with a picture of the job's format.
+pub record HasFrame (frame : EncodedFrame) (j : JobData) (work : Work) (used : ℕ) (key : Bool) : Type 0 where
+  pub bytes : HasBytes frame.bytes j.source work used
   pub told_key : key ≡ frame.key
   pub state : HasState frame.state work.reference
+  pub picture : HasGeometry (format_geometry j.format) frame.state.reference
 
 -- a reference that was lent is there, and has room for a picture of the format
 abbrev pub HasRoomFor : Format → Option CodecReference → Type 0
@@ -128,11 +134,13 @@ HasAreas no_codec format work = Unit {0}
 HasAreas (encoder state) format work = HasRoomFor format work.reference
 HasAreas (decoder state) format work = ⊥
 
--- the run came to this result, or the engine gave up
+-- the run was one of the job's sort and came to this result, or the engine gave up
 abbrev pub IsResult : Option RunResult → JobData → Work → Result Outcome EngineFault → Type 0
 IsResult None j work (Err fault) = Unit {0}
-IsResult (Some (copied bytes)) j work (Ok (Copied used)) = HasBytes bytes j.source work used
-IsResult (Some (encoded frame)) j work (Ok (Encoded used key)) = HasFrame frame j.source work used key
+IsResult (Some (copied bytes)) j work (Ok (Copied used)) =
+    (j.sort ≡ copy) × HasBytes bytes j.source work used
+IsResult (Some (encoded frame)) j work (Ok (Encoded used key)) =
+    (j.sort ≡ encode) × HasFrame frame j work used key
 IsResult back j work result = ⊥
 
 -- What is brought back of a job is this work, with this result of its run.
