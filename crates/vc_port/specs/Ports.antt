@@ -25,9 +25,13 @@ abbrev pub LeadsOver : {S : Type 0} → (S → S → Type 0) → S → List S �
 LeadsOver step old [] new = old ≡ new
 LeadsOver step old (next ∷ rest) new = step old next × LeadsOver step next rest new
 
--- The port waited, attempt after attempt, and then the call was answered.
-pub record IsWaitedFor {S : Type 0} (calls : S → Call → Reply → S → Type 0) (pauses : S → S → Type 0) (old : S) (request : Call) (told : Reply) (new : S) : Type 0 where
+-- The port waited, attempt after attempt, as often as it may be.
+pub record HasWaited {S : Type 0} (calls : S → Call → Reply → S → Type 0) (pauses : S → S → Type 0) (request : Call) (old new : S) : Type 0 where
   pub stops : List S
+  pub leads : LeadsOver (IsAttempt calls pauses request) old stops new
+
+-- The port waited, and then the call was answered.
+pub record IsWaitedFor {S : Type 0} (calls : S → Call → Reply → S → Type 0) (pauses : S → S → Type 0) (old : S) (request : Call) (told : Reply) (new : S) : Type 0 where
   pub last : S
-  pub waits : LeadsOver (IsAttempt calls pauses request) old stops last
+  pub waits : HasWaited calls pauses request old last
   pub answers : calls last request told new
