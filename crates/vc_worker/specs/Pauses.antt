@@ -1,5 +1,9 @@
 -- What a pause does to a port that has help.
-use Rattle.std.specs.Prelude.{◌≡◌, Bool, true, false, Option, Some, None}
+use Rattle.std.specs.Prelude.{◌≡◌, Bool, true, false, Option, Some, None, List}
+use Rattle.std.proofs.Common.{ap}
+use Rattle.vc_model.specs.Solo.{SoloEvent}
+use Rattle.vc_queue.specs.Holds.{HoldState}
+use Rattle.vc_port.specs.Payloads.{AreKept}
 
 -- after a job the port is as it was; else it paused
 abbrev pub PortPauses : {S : Type 0} → (S → S → Type 0) → Bool → S → S → Type 0
@@ -19,3 +23,9 @@ pub record IsPause {S H : Type 0} (pauses : S → S → Type 0) (turns : Bool �
   pub was_job : Bool
   pub port : PortPauses pauses was_job old new
   pub turn : HelpTurns turns was_job help help_after
+
+-- A pause with help changes neither the events nor a payload of the port, where its own pauses change none.
+pub kept_by_pause : {S : Type 0} (events : S → List SoloEvent) (hold : S → HoldState) (pauses : S → S → Type 0) → ((p q : S) → pauses p q → AreKept (events p) (hold p) (events q) (hold q)) → (p q : S) (was_job : Bool) → PortPauses pauses was_job p q → AreKept (events p) (hold p) (events q) (hold q)
+kept_by_pause events hold pauses kept p q true same =
+    record { events = ap events same; payloads = ap hold same }
+kept_by_pause events hold pauses kept p q false paused = kept p q paused

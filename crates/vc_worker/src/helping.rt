@@ -3,9 +3,9 @@
 ghost use Rattle.std.specs.Prelude.{◌≡◌, None};
 ghost use Rattle.vc_worker.specs.Turns.{Gained, IsTurn};
 
-use vc_base::{Call, Reply};
+use vc_base::{Call, Reply, Side};
 use vc_core::Engine;
-use vc_port::{Claimed, Port, Station};
+use vc_port::{Claimed, PayloadPort, Port, Station};
 
 /// A station and an engine, for a caller to run jobs with.
 pub struct Help<T: Station, E: Engine = Box<dyn Engine + Send>> {
@@ -76,4 +76,38 @@ impl<P: Port, T: Station, E: Engine> Port for Helping<P, T, E> {
     ghost follows_self = { λ p. (P.follows_self p.port, both_self _ (λ x. (T.follows_self x.station, gained_none _ _ _)) p.help) };
 
     ghost follows_on = { λ p q r f g. (P.follows_on p.port q.port r.port f.0 g.0, both_on _ (λ x y z a b. (T.follows_on x.station y.station z.station a.0 b.0, gained_on _ _ _ _ _ _ _ _ _ a.1 b.1)) p.help q.help r.help f.1 g.1) };
+}
+
+impl<P: PayloadPort, T: Station, E: Engine> PayloadPort for Helping<P, T, E> {
+    ghost use Rattle.vc_worker.specs.Pauses.{kept_by_pause};
+
+    ghost events = { λ h. P.events h.port };
+
+    ghost hold = { λ h. P.hold h.port };
+
+    fn payload(&self, side: Side, index: u32) -> Option<&[u8]> {
+        self.port.payload(side, index)
+    }
+
+    fn fill(&mut self, side: Side, index: u32, bytes: &[u8]) {
+        self.port.fill(side, index, bytes);
+    }
+
+    fn exchange(
+        &mut self,
+        side: Side,
+        index: u32,
+        other: &mut Self,
+        other_side: Side,
+        other_index: u32,
+    ) {
+        self.port
+            .exchange(side, index, &mut other.port, other_side, other_index);
+    }
+
+    ghost calls_are = { λ p q request told f. P.calls_are p.port q.port request told f.0 };
+
+    ghost pauses_are = { λ p q f. kept_by_pause P.events P.hold P.pauses P.pauses_are p.port q.port f.was_job f.port };
+
+    ghost fits = { λ p r. P.fits p.port r.0 };
 }
