@@ -5,6 +5,7 @@
 //! any station, and is proved from their contracts alone.
 #![tactic(auto)]
 
+pub mod laws;
 mod port;
 mod station;
 
