@@ -8,6 +8,7 @@ use vc_core::Engine;
 use vc_port::{Claimed, PayloadPort, Port, Station};
 
 /// A station and an engine, for a caller to run jobs with.
+#[derive(Drop)]
 pub struct Help<T: Station, E: Engine = Box<dyn Engine + Send>> {
     pub station: T,
     pub engine: E,
@@ -36,6 +37,7 @@ impl<T: Station, E: Engine> Help<T, E> {
 /// A port that runs jobs while it waits, where it has help. Its calls are those of the port. Its pause
 /// claims a job, runs it and finishes it; without help, and where there is no job, it pauses the port.
 /// Between its calls the station of its help has no job.
+#[derive(Drop)]
 pub struct Helping<P: Port, T: Station, E: Engine = Box<dyn Engine + Send>> {
     pub port: P,
     pub help: Option<Help<T, E>>,

@@ -8,6 +8,7 @@ use vc_core::Engine;
 use vc_port::{Claimed, Station};
 
 /// What a worker hands back: its station, and its engine.
+#[derive(Drop)]
 pub struct Served<T: Station, E: Engine = Box<dyn Engine + Send>> {
     pub station: T,
     pub engine: E,
