@@ -2,6 +2,7 @@ pub mod Decoding
 pub mod DoneNow
 pub mod Effects
 pub mod Encoding
+pub mod Framing
 pub mod Halting
 pub mod Marks
 pub mod Outcomes

@@ -37,7 +37,7 @@ made_still : (c x y : Context) (new : List Buffer) → y.cap.done ≡ x.cap.done
 made_still c x y new e m = record { front = m.front; is = e ∙ m.is; old = m.old; fresh = m.fresh }
 
 -- settling adds an empty LAST buffer at most
-settled_runs : (c x y : Context) (new : List Buffer) → Made c x new → c.cap.next_seq ≤ x.cap.next_seq → Settles x y → by_runs (done_now c y) ≡ by_runs new
+pub settled_runs : (c x y : Context) (new : List Buffer) → Made c x new → c.cap.next_seq ≤ x.cap.next_seq → Settles x y → by_runs (done_now c y) ≡ by_runs new
 settled_runs c x y new m l still = ap by_runs (made_now c x new m)
 settled_runs c x y new m l (owes p r) = ap by_runs (made_now c y new (made_still c x y new refl m))
 settled_runs c x y new m l (gives cause b rest events r p) =
@@ -165,11 +165,11 @@ blank_step s limit source stamp n =
 
 -- The buffer of a run
 
-cap_bytes : (side : Side) (flags : ℕ) (bytes : List ℕ) → side ≡ Cap → known_bytes side flags bytes ≡ bytes
+pub cap_bytes : (side : Side) (flags : ℕ) (bytes : List ℕ) → side ≡ Cap → known_bytes side flags bytes ≡ bytes
 cap_bytes side flags bytes e = ap (λ s. known_bytes s flags bytes) e
 
 -- the buffer that the run put on done, with the flags that it put there
-abbrev retired_buffer : Context → Buffer → ℕ → List ℕ → ℕ → Stamp → Buffer
+abbrev pub retired_buffer : Context → Buffer → ℕ → List ℕ → ℕ → Stamp → Buffer
 retired_buffer c d used bytes flags stamp =
     record d { used = used; bytes = known_bytes c.cap.side flags bytes; flags = flags; stamp = stamp; seq = c.cap.next_seq }
 
@@ -178,15 +178,15 @@ abbrev IsGivenIn : ℕ → Fourcc → DecodedStep → Buffer → Type 0
 IsGivenIn from fourcc step z =
     (by_runs (z ∷ []) ≡ z ∷ []) × OneForOne (in_buffers (with_result [] from fourcc step.stamp step.given)) (z ∷ [])
 
-type_by_run : (key : Bool) → eqb (type_flag key) last_flag ≡ false
+pub type_by_run : (key : Bool) → eqb (type_flag key) last_flag ≡ false
 type_by_run true = refl
 type_by_run false = refl
 
-type_last_by_run : (key : Bool) → eqb (type_flag key + last_flag) last_flag ≡ false
+pub type_last_by_run : (key : Bool) → eqb (type_flag key + last_flag) last_flag ≡ false
 type_last_by_run true = refl
 type_last_by_run false = refl
 
-by_run_alone : (z : Buffer) → eqb z.flags last_flag ≡ false → by_runs (z ∷ []) ≡ z ∷ []
+pub by_run_alone : (z : Buffer) → eqb z.flags last_flag ≡ false → by_runs (z ∷ []) ≡ z ∷ []
 by_run_alone z e = ap (λ b. cond (not b) (z ∷ []) []) e
 
 -- one result in one buffer

@@ -8,7 +8,7 @@ use Rattle.vc_defs.specs.declared.Geometry.{Geometry}
 use Rattle.vc_defs.specs.Raw.{layout_of, planes_of, raw_of}
 use Rattle.vc_defs.specs.Decoder.{FrameResult, ResultKind, Picture, Damaged, Changed, results}
 use Rattle.vc_defs.specs.Encoder.{RunRates, Encoded, encoded, encoded_bytes}
-use Rattle.vc_model.specs.Coder.{the_coder}
+use Rattle.vc_model.specs.Coder.{Coder, the_coder}
 use Rattle.vc_model.specs.Context.{Context, Running}
 use Rattle.vc_model.specs.Runs.{type_flag}
 use Rattle.vc_model.specs.Solo.{SoloEvent, solo_slot}
@@ -118,3 +118,17 @@ by_runs bs = filter is_by_run bs
 abbrev pub RetiredAreResults : Type 0
 RetiredAreResults =
     (events : List SoloEvent) (c : Context) → solo_slot the_coder None events ≡ Some c → c.kind ≡ Dec → let seg = segment_of the_coder events in OneForOne (in_buffers seg.results) (by_runs seg.retired)
+
+-- the CAPTURE buffer is that of the picture's frame: the frame's bytes, their number, its flags and the picture's stamp
+abbrev pub IsFrameIn : EncodedPicture → Buffer → Type 0
+IsFrameIn p b = (b.bytes ≡ p.frame) × (b.used ≡ length p.frame) × (b.stamp ≡ p.stamp) × HasFlags b.flags (type_flag p.key)
+
+abbrev pub FrameForFrame : List EncodedPicture → List Buffer → Type 0
+FrameForFrame [] [] = Unit {0}
+FrameForFrame (p ∷ ps) (b ∷ bs) = IsFrameIn p b × FrameForFrame ps bs
+FrameForFrame _ _ = ⊥
+
+-- The CAPTURE buffers that an encoder's runs put on done are the frames of the segment, one for one.
+abbrev pub RetiredAreFrames : Type 0
+RetiredAreFrames =
+    (coder : Coder) (events : List SoloEvent) (c : Context) → solo_slot coder None events ≡ Some c → c.kind ≡ Enc → let seg = segment_of coder events in FrameForFrame seg.pictures (by_runs seg.retired)

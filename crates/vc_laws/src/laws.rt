@@ -3,7 +3,7 @@
 //! interface, in the Linux userspace API documentation.
 
 ghost use Rattle.vc_laws.specs.Drains.{AbortedByOff, AllWentBack, ChangesStop, DrainsAreWhole, DrainsBeginAtStop, DrainsGiveAll, FrameAfterChange, MarksStay, NothingAfterLast, ResultsBeforeChange, SameDrainsSameResults, StopsByChange};
-ghost use Rattle.vc_laws.specs.Following.{EncoderFollows, Follows, RetiredAreResults, SegmentsBegin};
+ghost use Rattle.vc_laws.specs.Following.{EncoderFollows, Follows, RetiredAreFrames, RetiredAreResults, SegmentsBegin};
 
 /// A drain begins at a STOP alone, and its mark is the number of OUTPUT buffers queued before it.
 pub fn drains_begin_at_stop()
@@ -53,6 +53,11 @@ pub fn encoder_follows()
 /// The CAPTURE buffers that a decoder's runs put on done are the segment's results other than changes, one for one.
 pub fn retired_are_results()
     ensures { RetiredAreResults }
+{}
+
+/// The CAPTURE buffers that an encoder's runs put on done are the segment's frames, one for one.
+pub fn retired_are_frames()
+    ensures { RetiredAreFrames }
 {}
 
 /// Before the first run of a segment it has neither bytes nor results.
