@@ -10,5 +10,6 @@ pub mod Retiring
 pub mod Segmenting
 pub mod Standing
 pub mod Steps
+pub mod Taking
 pub mod Tidy
 pub mod Wholes

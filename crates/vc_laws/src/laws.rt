@@ -3,6 +3,7 @@
 //! interface, in the Linux userspace API documentation.
 
 ghost use Rattle.vc_laws.specs.Drains.{AbortedByOff, AllWentBack, ChangesStop, DrainsAreWhole, DrainsBeginAtStop, DrainsGiveAll, FrameAfterChange, MarksStay, NothingAfterLast, ResultsBeforeChange, SameDrainsSameResults, StopsByChange};
+ghost use Rattle.vc_laws.specs.Taking.{DoneIsRetired, HandedInOrder, TakenInOrder};
 ghost use Rattle.vc_laws.specs.Following.{EncoderFollows, Follows, RetiredAreFrames, RetiredAreResults, SegmentsBegin};
 
 /// A drain begins at a STOP alone, and its mark is the number of OUTPUT buffers queued before it.
@@ -88,4 +89,11 @@ pub fn frame_after_change()
 /// Neither schedule nor cutting matters to a finished drain.
 pub fn same_drains()
     ensures { SameDrainsSameResults }
+{}
+
+/// The client takes what goes to done on CAPTURE in that order, each buffer once and with its bytes.
+pub fn taken_in_order()
+    ensures steps { TakenInOrder }
+    ensures runs { HandedInOrder }
+    ensures segments { DoneIsRetired }
 {}
