@@ -4,6 +4,7 @@ pub mod Effects
 pub mod Encoding
 pub mod Framing
 pub mod Halting
+pub mod Handing
 pub mod Marks
 pub mod Outcomes
 pub mod Retiring

@@ -3,17 +3,21 @@
 use Rattle.std.specs.Prelude.{ℕ, ◌≡◌, Bool, true, false, take, Some, None, List, [], ◌∷◌, ◌++◌}
 use Rattle.std.specs.List.{flat_map}
 use Rattle.vc_base.specs.declared.Side.TheVariants.{Cap}
+use Rattle.vc_base.specs.declared.Kind.TheVariants.{Enc, Dec}
+use Rattle.vc_base.specs.declared.Fourcc.{Fourcc}
 use Rattle.vc_base.specs.declared.Call.{Call}
 use Rattle.vc_base.specs.declared.Call.TheVariants.{Close, ReqBufs, StreamOff}
 use Rattle.vc_base.specs.declared.Reply.{Reply}
 use Rattle.vc_base.specs.declared.Reply.TheVariants.{Done, Count}
 use Rattle.vc_base.specs.Buffers.{Buffer, taken}
-use Rattle.vc_model.specs.Coder.{Coder}
+use Rattle.vc_defs.specs.Raw.{raw_of}
+use Rattle.vc_defs.specs.Decoder.{ResultKind, Picture, Damaged, Changed}
+use Rattle.vc_model.specs.Coder.{Coder, the_coder}
 use Rattle.vc_model.specs.Context.{Context, Slot}
 use Rattle.vc_model.specs.Solo.{SoloEvent, Called, SoloReply, Answered, solo_step, solo_run, solo_slot}
 use Rattle.vc_model.specs.Drains.{AtEveryStep, takes_capture, done_now}
 use Rattle.vc_model.specs.Handed.{handed_out}
-use Rattle.vc_laws.specs.Segments.{resets, segment_of}
+use Rattle.vc_laws.specs.Segments.{SegmentResult, resets, segment_of}
 
 -- the calls that drop what is on CAPTURE's done list, where they are answered so
 abbrev pub call_drops : Call → Reply → Bool
@@ -79,3 +83,24 @@ KeepsSegment coder (Some c) (e ∷ es) =
 abbrev pub DoneIsRetired : Type 0
 DoneIsRetired =
     (coder : Coder) (events more : List SoloEvent) (c : Context) → solo_slot coder None events ≡ Some c → KeepsSegment coder (Some c) more → (segment_of coder (events ++ more)).retired ≡ (segment_of coder events).retired ++ done_in coder (Some c) more
+
+-- Bytes
+
+-- the bytes that a result brings the client: those of a picture in the client's format
+abbrev pub bytes_of_kind : Fourcc → ResultKind → List ℕ
+bytes_of_kind fourcc (Picture geometry key planes) = raw_of fourcc planes
+bytes_of_kind fourcc Damaged = []
+bytes_of_kind fourcc (Changed geometry) = []
+
+abbrev pub bytes_of_result : SegmentResult → List ℕ
+bytes_of_result x = bytes_of_kind x.fourcc x.what.kind
+
+-- What goes to done on CAPTURE of a decoder has the bytes of the segment's pictures, in order, and nothing else.
+abbrev pub PicturesAreHandedOut : Type 0
+PicturesAreHandedOut =
+    (events : List SoloEvent) (c : Context) → solo_slot the_coder None events ≡ Some c → c.kind ≡ Dec → let seg = segment_of the_coder events in bytes_of seg.retired ≡ flat_map bytes_of_result seg.results
+
+-- What goes to done on CAPTURE of an encoder has the bytes of the segment's frames, in order, and nothing else.
+abbrev pub FramesAreHandedOut : Type 0
+FramesAreHandedOut =
+    (coder : Coder) (events : List SoloEvent) (c : Context) → solo_slot coder None events ≡ Some c → c.kind ≡ Enc → let seg = segment_of coder events in bytes_of seg.retired ≡ flat_map (λ p. p.frame) seg.pictures

@@ -3,7 +3,7 @@
 //! interface, in the Linux userspace API documentation.
 
 ghost use Rattle.vc_laws.specs.Drains.{AbortedByOff, AllWentBack, ChangesStop, DrainsAreWhole, DrainsBeginAtStop, DrainsGiveAll, FrameAfterChange, MarksStay, NothingAfterLast, ResultsBeforeChange, SameDrainsSameResults, StopsByChange};
-ghost use Rattle.vc_laws.specs.Taking.{DoneIsRetired, HandedInOrder, TakenInOrder};
+ghost use Rattle.vc_laws.specs.Taking.{DoneIsRetired, FramesAreHandedOut, HandedInOrder, PicturesAreHandedOut, TakenInOrder};
 ghost use Rattle.vc_laws.specs.Following.{EncoderFollows, Follows, RetiredAreFrames, RetiredAreResults, SegmentsBegin};
 
 /// A drain begins at a STOP alone, and its mark is the number of OUTPUT buffers queued before it.
@@ -96,4 +96,10 @@ pub fn taken_in_order()
     ensures steps { TakenInOrder }
     ensures runs { HandedInOrder }
     ensures segments { DoneIsRetired }
+{}
+
+/// What goes to done on CAPTURE has the bytes of the segment's pictures, or frames, in order, and nothing else.
+pub fn pictures_are_handed_out()
+    ensures decoders { PicturesAreHandedOut }
+    ensures encoders { FramesAreHandedOut }
 {}
