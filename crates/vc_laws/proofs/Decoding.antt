@@ -21,7 +21,8 @@ use Rattle.vc_model.specs.Runs.{front_is_due, sort_of, running_of, source_of, Jo
 use Rattle.vc_model.specs.Solo.{SoloEvent, Called, Claims, Finishes, SoloReply, Answered, Claimed, Finished, solo_step, solo_slot}
 use Rattle.vc_model.specs.Sound.{CountsUp, HasCodec, dest_count, IsOrdered, IsOrderedSlot}
 use Rattle.vc_model.specs.Drains.{done_now}
-use Rattle.vc_laws.specs.Segments.{Segment, fresh_segment, call_resets, call_adds, first_of, with_result, is_change, is_change_kind, tail_length, after_run, after_decode, segment_of_step, segment_of_slots, segment_step, segment_of}
+use Rattle.vc_defs.specs.Outputs.{is_change_result}
+use Rattle.vc_laws.specs.Segments.{Segment, fresh_segment, call_resets, call_adds, first_of, with_result, is_change, tail_length, after_run, after_decode, segment_of_step, segment_of_slots, segment_step, segment_of}
 use Rattle.vc_laws.specs.Following.{OneForOne, in_buffers, is_by_run, by_runs}
 use Rattle.vc_laws.proofs.Effects.{CodecAfterFormat, CodecAfterBuffers, CodecAfterOutput, CodecAfterCapture, MarkAfterLast, Settles, still, owes, gives, Effect, stays, closes, has_events, has_rates, has_out_format, has_cap_format, has_out_buffers, has_cap_buffers, adds_out, adds_cap, queues_out, queues_cap, takes_out, takes_cap, takes_last, streams_out, streams_cap, stops_out, stops_cap, rests_cap, sets_mark, starts}
 use Rattle.vc_laws.proofs.Steps.{moved_out, probes, runs, HasJob, Puts, puts_fault, puts_copy, puts_frame, puts_picture, puts_damage, Ends, alone, kept, ended, halts, spends, Step, calls, rests, lacks_job, claims, finishes, faults, step_of}
@@ -313,10 +314,10 @@ puts_no_change c j b step result up flags cursor codec used bytes dest_flags sta
 puts_no_change c j b step result up flags cursor codec used bytes dest_flags stamp e n (puts_frame frame k) = absurd (cc)
 puts_no_change c j b step result up flags cursor codec used bytes dest_flags stamp e n (puts_picture now r geometry key planes g k) =
     let same : now ≡ step = cc in
-    absurd (false≢true (ap is_change_kind (sym k) ∙ (ap is_change (sym g) ∙ (ap (λ s. is_change s.given) same ∙ n))))
+    absurd (false≢true (ap is_change_result (sym k) ∙ (ap is_change (sym g) ∙ (ap (λ s. is_change s.given) same ∙ n))))
 puts_no_change c j b step result up flags cursor codec used bytes dest_flags stamp e n (puts_damage now r g k) =
     let same : now ≡ step = cc in
-    absurd (false≢true (ap is_change_kind (sym k) ∙ (ap is_change (sym g) ∙ (ap (λ s. is_change s.given) same ∙ n))))
+    absurd (false≢true (ap is_change_result (sym k) ∙ (ap is_change (sym g) ∙ (ap (λ s. is_change s.given) same ∙ n))))
 
 back_due : (b : Buffer) (rest : List Buffer) (cursor : ℕ) (mark : Option ℕ) → front_is_due (b ∷ []) mark ≡ true → front_is_due (record b { cursor = cursor } ∷ rest) mark ≡ true
 back_due b rest cursor None e = refl
@@ -388,8 +389,8 @@ blank_reference step (gives_none g r) o e n = r
 blank_reference step (gives_change f g k) o e n = absurd (false≢true (sym n ∙ (ap is_change (sym e ∙ g) ∙ k)))
 
 kind_then : (step : DecodedStep) (f : FrameResult) (kind : ResultKind) (g : Option Geometry) → (g ≡ None → IsBlankStep step) → step.given ≡ Some f → f.kind ≡ kind → geometry_after_kind kind g ≡ None → step.state.reference ≡ None
-kind_then step f (Picture geometry key planes) g h e k n = blank_reference step (h n) (Some f) e (ap is_change_kind k)
-kind_then step f Damaged g h e k n = blank_reference step (h n) (Some f) e (ap is_change_kind k)
+kind_then step f (Picture geometry key planes) g h e k n = blank_reference step (h n) (Some f) e (ap is_change_result k)
+kind_then step f Damaged g h e k n = blank_reference step (h n) (Some f) e (ap is_change_result k)
 kind_then step f (Changed geometry) g h e k n = absurd (cc)
 
 given_then_blank : (step : DecodedStep) (o : Option FrameResult) (g : Option Geometry) → (g ≡ None → IsBlankStep step) → step.given ≡ o → geometry_after o g ≡ None → step.state.reference ≡ None

@@ -2,12 +2,15 @@ pub mod Decoding
 pub mod DoneNow
 pub mod Effects
 pub mod Encoding
+pub mod Framing
 pub mod Halting
+pub mod Handing
 pub mod Marks
 pub mod Outcomes
 pub mod Retiring
 pub mod Segmenting
 pub mod Standing
 pub mod Steps
+pub mod Taking
 pub mod Tidy
 pub mod Wholes

@@ -20,7 +20,8 @@ use Rattle.vc_model.specs.Drains.{is_last_by_drain}
 use Rattle.vc_model.proofs.Tests.{and_left}
 use Rattle.vc_model.proofs.Firm.{idle}
 use Rattle.vc_model.proofs.Ending.{always_ordered, step_sound}
-use Rattle.vc_laws.specs.Segments.{Segment, segment_of, whats, is_change_kind}
+use Rattle.vc_defs.specs.Outputs.{is_change_result}
+use Rattle.vc_laws.specs.Segments.{Segment, segment_of, whats}
 use Rattle.vc_laws.specs.Following.{is_picture, is_no_change, FollowsDecoder, Follows, SegmentsBegin, RetiredAreResults}
 use Rattle.vc_laws.specs.Drains.{DrainsGiveAll, IsAnswered, ChangesAreAnswered, FrameAfterChange, SameDrainsSameResults}
 use Rattle.vc_laws.proofs.Steps.{step_of}
@@ -50,7 +51,7 @@ follows_from seg r codec geometry h =
     let rest = map result_of (drop n all) in
     let whole : map result_of all ≡ whats seg ++ rest = ap (λ l. map result_of l) (sym (take-append-drop n all)) ∙ (map-append result_of (take n all) (drop n all) ∙ ap (λ l. l ++ rest) (sym h.what)) in
     record {
-      front = (rest, whole);
+      front = (rest, sym whole);
       all = λ e. sym (append-nil (whats seg)) ∙ (ap (λ l. whats seg ++ map result_of l) (sym (h.all e)) ∙ sym whole);
       pictures = sym (ap (λ l. filter is_picture l) whole ∙ (filter-append is_picture (whats seg) rest ∙ (ap (λ l. filter is_picture (whats seg) ++ l) h.rest ∙ append-nil (filter is_picture (whats seg)))));
       stamps = λ k d l. (h.stamped k d l).1;
@@ -110,12 +111,12 @@ same_drains one other e f r q a b l g s =
 
 -- Changes
 
-kind_no_change : (kind : ResultKind) → IsNoChange kind → not (is_change_kind kind) ≡ true
+kind_no_change : (kind : ResultKind) → IsNoChange kind → not (is_change_result kind) ≡ true
 kind_no_change (Picture geometry key planes) n = refl
 kind_no_change Damaged n = refl
 kind_no_change (Changed geometry) n = absurd n
 
-answered_by : (kind : ResultKind) (position known : ℕ) (next : FrameResult) → IsNext kind position known next → not (is_change_kind kind) ≡ false → (is_no_change next ≡ true) × (next.position ≡ position)
+answered_by : (kind : ResultKind) (position known : ℕ) (next : FrameResult) → IsNext kind position known next → not (is_change_result kind) ≡ false → (is_no_change next ≡ true) × (next.position ≡ position)
 answered_by (Picture geometry key planes) position known next n e = absurd (false≢true (sym e))
 answered_by Damaged position known next n e = absurd (false≢true (sym e))
 answered_by (Changed geometry) position known next n e = (kind_no_change next.kind n.1, n.0)
@@ -132,4 +133,4 @@ pub frame_after_change : FrameAfterChange
 frame_after_change events c r at k e =
     let seg = segment_of the_coder events in
     let front = (follows events c r at k e).front in
-    answered_in (whats seg) front.0 (subst AreOrdered front.1 (results_are_ordered r.limit r.geometry None seg.bytes))
+    answered_in (whats seg) front.0 (subst AreOrdered (sym front.1) (results_are_ordered r.limit r.geometry None seg.bytes))

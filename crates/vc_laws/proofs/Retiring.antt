@@ -18,7 +18,8 @@ use Rattle.vc_model.specs.Coder.{CodecState}
 use Rattle.vc_model.specs.Context.{Context, Slot, run}
 use Rattle.vc_model.specs.Runs.{JobData, RunResult, decoded, type_flag}
 use Rattle.vc_model.specs.Drains.{done_now}
-use Rattle.vc_laws.specs.Segments.{SegmentResult, with_result, is_change_kind}
+use Rattle.vc_defs.specs.Outputs.{is_change_result}
+use Rattle.vc_laws.specs.Segments.{SegmentResult, with_result}
 use Rattle.vc_laws.specs.Following.{HoldsKind, OneForOne, in_buffers, is_no_change, is_by_run, by_runs}
 use Rattle.vc_laws.proofs.Effects.{Settles, still, owes, gives, Effect, stays, closes, has_events, has_rates, has_out_format, has_cap_format, has_out_buffers, has_cap_buffers, adds_out, adds_cap, queues_out, queues_cap, takes_out, takes_cap, takes_last, streams_out, streams_cap, stops_out, stops_cap, rests_cap, sets_mark, starts}
 use Rattle.vc_laws.proofs.Steps.{Puts, puts_fault, puts_copy, puts_frame, puts_picture, puts_damage, Ends, alone, kept, ended, halts, spends, Returns, none_taken, given_back}
@@ -37,7 +38,7 @@ made_still : (c x y : Context) (new : List Buffer) → y.cap.done ≡ x.cap.done
 made_still c x y new e m = record { front = m.front; is = e ∙ m.is; old = m.old; fresh = m.fresh }
 
 -- settling adds an empty LAST buffer at most
-settled_runs : (c x y : Context) (new : List Buffer) → Made c x new → c.cap.next_seq ≤ x.cap.next_seq → Settles x y → by_runs (done_now c y) ≡ by_runs new
+pub settled_runs : (c x y : Context) (new : List Buffer) → Made c x new → c.cap.next_seq ≤ x.cap.next_seq → Settles x y → by_runs (done_now c y) ≡ by_runs new
 settled_runs c x y new m l still = ap by_runs (made_now c x new m)
 settled_runs c x y new m l (owes p r) = ap by_runs (made_now c y new (made_still c x y new refl m))
 settled_runs c x y new m l (gives cause b rest events r p) =
@@ -119,11 +120,11 @@ buffers_more rs from fourcc stamp (Some r) =
 -- or a change.
 pub data IsBlankStep (step : DecodedStep) : Type 0 where
   gives_none : step.given ≡ None → step.state.reference ≡ None → IsBlankStep step
-  gives_change : (r : FrameResult) → step.given ≡ Some r → is_change_kind r.kind ≡ true → IsBlankStep step
+  gives_change : (r : FrameResult) → step.given ≡ Some r → is_change_result r.kind ≡ true → IsBlankStep step
 
 FirstIsChange : List GivenResult → Type 0
 FirstIsChange [] = Unit {0}
-FirstIsChange (x ∷ later) = is_change_kind x.result.kind ≡ true
+FirstIsChange (x ∷ later) = is_change_result x.result.kind ≡ true
 
 abbrev blank_now : BetweenFrames
 blank_now = record { geometry = None; reference = None }
@@ -136,7 +137,7 @@ header_first position h key e = split (h.key && true)
     split true = refl
     split false = tt
 
-front_change : (k : Bool) (x : GivenResult) (tail : List GivenResult) → k ≡ true → is_change_kind x.result.kind ≡ true → FirstIsChange (cond (k && true) (x ∷ []) [] ++ tail)
+front_change : (k : Bool) (x : GivenResult) (tail : List GivenResult) → k ≡ true → is_change_result x.result.kind ≡ true → FirstIsChange (cond (k && true) (x ∷ []) [] ++ tail)
 unfolding FirstIsChange
 front_change true x tail e h = h
 front_change false x tail e h = absurd (false≢true e)
@@ -165,11 +166,11 @@ blank_step s limit source stamp n =
 
 -- The buffer of a run
 
-cap_bytes : (side : Side) (flags : ℕ) (bytes : List ℕ) → side ≡ Cap → known_bytes side flags bytes ≡ bytes
+pub cap_bytes : (side : Side) (flags : ℕ) (bytes : List ℕ) → side ≡ Cap → known_bytes side flags bytes ≡ bytes
 cap_bytes side flags bytes e = ap (λ s. known_bytes s flags bytes) e
 
 -- the buffer that the run put on done, with the flags that it put there
-abbrev retired_buffer : Context → Buffer → ℕ → List ℕ → ℕ → Stamp → Buffer
+abbrev pub retired_buffer : Context → Buffer → ℕ → List ℕ → ℕ → Stamp → Buffer
 retired_buffer c d used bytes flags stamp =
     record d { used = used; bytes = known_bytes c.cap.side flags bytes; flags = flags; stamp = stamp; seq = c.cap.next_seq }
 
@@ -178,22 +179,22 @@ abbrev IsGivenIn : ℕ → Fourcc → DecodedStep → Buffer → Type 0
 IsGivenIn from fourcc step z =
     (by_runs (z ∷ []) ≡ z ∷ []) × OneForOne (in_buffers (with_result [] from fourcc step.stamp step.given)) (z ∷ [])
 
-type_by_run : (key : Bool) → eqb (type_flag key) last_flag ≡ false
+pub type_by_run : (key : Bool) → eqb (type_flag key) last_flag ≡ false
 type_by_run true = refl
 type_by_run false = refl
 
-type_last_by_run : (key : Bool) → eqb (type_flag key + last_flag) last_flag ≡ false
+pub type_last_by_run : (key : Bool) → eqb (type_flag key + last_flag) last_flag ≡ false
 type_last_by_run true = refl
 type_last_by_run false = refl
 
-by_run_alone : (z : Buffer) → eqb z.flags last_flag ≡ false → by_runs (z ∷ []) ≡ z ∷ []
+pub by_run_alone : (z : Buffer) → eqb z.flags last_flag ≡ false → by_runs (z ∷ []) ≡ z ∷ []
 by_run_alone z e = ap (λ b. cond (not b) (z ∷ []) []) e
 
 -- one result in one buffer
-one_pair : (from : ℕ) (fourcc : Fourcc) (step : DecodedStep) (r : FrameResult) (z : Buffer) (kind : ResultKind) → step.given ≡ Some r → r.kind ≡ kind → is_change_kind kind ≡ false → z.stamp ≡ step.stamp → HoldsKind (record { what = moved_result from r; stamp = step.stamp; fourcc = fourcc }) z kind → OneForOne (in_buffers (with_result [] from fourcc step.stamp step.given)) (z ∷ [])
+one_pair : (from : ℕ) (fourcc : Fourcc) (step : DecodedStep) (r : FrameResult) (z : Buffer) (kind : ResultKind) → step.given ≡ Some r → r.kind ≡ kind → is_change_result kind ≡ false → z.stamp ≡ step.stamp → HoldsKind (record { what = moved_result from r; stamp = step.stamp; fourcc = fourcc }) z kind → OneForOne (in_buffers (with_result [] from fourcc step.stamp step.given)) (z ∷ [])
 one_pair from fourcc step r z kind g k n s h =
     let x : SegmentResult = record { what = moved_result from r; stamp = step.stamp; fourcc = fourcc } in
-    let kept : in_buffers (x ∷ []) ≡ x ∷ [] = ap (λ b. cond (not b) (x ∷ []) []) (ap is_change_kind k ∙ n) in
+    let kept : in_buffers (x ∷ []) ≡ x ∷ [] = ap (λ b. cond (not b) (x ∷ []) []) (ap is_change_result k ∙ n) in
     subst (λ o. OneForOne (in_buffers (with_result [] from fourcc step.stamp o)) (z ∷ [])) (sym g) (subst (λ l. OneForOne l (z ∷ [])) (sym kept) ((s, subst (HoldsKind x z) (sym k) h), tt))
 
 -- the buffer with the flags of the run, and with LAST beside them
@@ -214,7 +215,7 @@ puts_given c j b d from step result up flags cursor codec used bytes dest_flags 
 -- a result that goes to the client in no buffer
 pub NoBuffer : Option FrameResult → Type 0
 NoBuffer None = Unit {0}
-NoBuffer (Some r) = is_change_kind r.kind ≡ true
+NoBuffer (Some r) = is_change_result r.kind ≡ true
 
 pub blank_gives_no_buffer : (step : DecodedStep) → IsBlankStep step → NoBuffer step.given
 unfolding NoBuffer
@@ -228,10 +229,10 @@ puts_no_buffer c j b step result up flags cursor codec used bytes dest_flags sta
 puts_no_buffer c j b step result up flags cursor codec used bytes dest_flags stamp e n (puts_frame frame k) = absurd (cc)
 puts_no_buffer c j b step result up flags cursor codec used bytes dest_flags stamp e n (puts_picture now r geometry key planes g k) =
     let same : now ≡ step = cc in
-    absurd (false≢true (ap is_change_kind (sym k) ∙ subst NoBuffer g (subst (λ s. NoBuffer s.given) (sym same) n)))
+    absurd (false≢true (ap is_change_result (sym k) ∙ subst NoBuffer g (subst (λ s. NoBuffer s.given) (sym same) n)))
 puts_no_buffer c j b step result up flags cursor codec used bytes dest_flags stamp e n (puts_damage now r g k) =
     let same : now ≡ step = cc in
-    absurd (false≢true (ap is_change_kind (sym k) ∙ subst NoBuffer g (subst (λ s. NoBuffer s.given) (sym same) n)))
+    absurd (false≢true (ap is_change_result (sym k) ∙ subst NoBuffer g (subst (λ s. NoBuffer s.given) (sym same) n)))
 
 -- What a run put on done is its result, where that goes to the client in a buffer.
 pub GaveIn : Context → ℕ → Fourcc → DecodedStep → Context → Type 0
@@ -269,7 +270,7 @@ ended_gave c j b from step {result = result} x y e side t n (ended flags cursor 
 ended_gave c j b from step x y e side t n (halts now r geometry k phase events g q back p) s =
     let d = returned_done c.cap k back in
     let same : now ≡ step = cc in
-    gave_nothing c x y from j.format.fourcc step (subst (λ z. NoBuffer z.given) same (subst NoBuffer (sym g) (ap is_change_kind q))) d.0 d.1 t s
+    gave_nothing c x y from j.format.fourcc step (subst (λ z. NoBuffer z.given) same (subst NoBuffer (sym g) (ap is_change_result q))) d.0 d.1 t s
 ended_gave c j b from step x y e side t n (spends now k g back) s =
     let d = returned_done c.cap k back in
     let same : now ≡ step = cc in

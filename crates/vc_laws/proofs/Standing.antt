@@ -15,7 +15,8 @@ use Rattle.vc_defs.specs.Decoder.{FrameResult, ResultKind, Picture, Damaged, Cha
 use Rattle.vc_defs.specs.Laws.{Resuming, IsReached, TellsNext, from_start, present_at, state_at, given_after, AreOrdered, IsNextIfAny, IsKnownRight}
 use Rattle.vc_defs.proofs.ResultOrder.{results_are_ordered, results_stay, results_are_inside}
 use Rattle.vc_model.specs.Coder.{CodecState, decoder}
-use Rattle.vc_laws.specs.Segments.{SegmentResult, with_result, is_change_kind, is_change}
+use Rattle.vc_defs.specs.Outputs.{is_change_result}
+use Rattle.vc_laws.specs.Segments.{SegmentResult, with_result, is_change}
 use Rattle.vc_laws.specs.Following.{is_picture, is_picture_kind}
 
 -- each result has the stamp of the byte at its position, which is one of the segment's
@@ -67,7 +68,7 @@ damaged_last y (z ∷ zs) known d o h =
     let l : y.result.known < z.result.known = subst (λ k. IsNextIfAny (record { position = y.result.position; known = y.result.known; kind = k }) (map result_of (z ∷ zs))) d o.1 in
     absurd (omega arith)
 
-behind : (kind : ResultKind) (position known last : ℕ) (ys : List GivenResult) → IsNextIfAny (record { position = position; known = known; kind = kind }) (map result_of ys) → AreOrdered (map result_of ys) → All (λ (f : GivenResult). f.result.known ≡ last) ys → known ≡ last → (is_change_kind kind ≡ false → ys ≡ []) × (filter is_picture (map result_of ys) ≡ [])
+behind : (kind : ResultKind) (position known last : ℕ) (ys : List GivenResult) → IsNextIfAny (record { position = position; known = known; kind = kind }) (map result_of ys) → AreOrdered (map result_of ys) → All (λ (f : GivenResult). f.result.known ≡ last) ys → known ≡ last → (is_change_result kind ≡ false → ys ≡ []) × (filter is_picture (map result_of ys) ≡ [])
 behind kind position known last [] n o h e = (λ c. refl, refl)
 behind (Picture geometry key planes) position known last (y ∷ ys) n o h e =
     let a = h 0 y (omega arith) in absurd (omega (arith, n))
@@ -203,9 +204,9 @@ one_more limit g bytes more stamps stamp found fourcc given codec geometry h nex
       stamped = All-push (IsStamped new_stamps) found x (stamped_more stamps (replicate (length (take step.moved more)) stamp) found h.stamped) (omega arith, r.0.1 ∙ (same_stamp stamps stamp (length (take step.moved more)) (length more) next.result.position (omega arith) (omega arith) ∙ ap (λ p. get_or new_stamps p zero_stamp) (sym place)));
     }
   where
-    no_change : (kind other : ResultKind) → kind ≡ other → cond (is_change_kind kind) false true ≡ true → is_change_kind other ≡ false
-    no_change (Picture geometry key planes) other e c = ap is_change_kind (sym e)
-    no_change Damaged other e c = ap is_change_kind (sym e)
+    no_change : (kind other : ResultKind) → kind ≡ other → cond (is_change_result kind) false true ≡ true → is_change_result other ≡ false
+    no_change (Picture geometry key planes) other e c = ap is_change_result (sym e)
+    no_change Damaged other e c = ap is_change_result (sym e)
     no_change (Changed g) other e c = absurd (false≢true c)
 
 -- the result of the run, given that it moved to the next one

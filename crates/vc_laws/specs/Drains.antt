@@ -10,9 +10,10 @@ use Rattle.vc_base.specs.declared.Reply.TheVariants.{Done}
 use Rattle.vc_base.specs.Buffers.{Buffer, last_flag}
 use Rattle.vc_defs.specs.Decoder.{FrameResult}
 use Rattle.vc_model.specs.Coder.{Coder, the_coder}
-use Rattle.vc_model.specs.Context.{Context, Slot, Running, PhaseState, run, owe, last, stopped, is_run, is_stopped, is_drain}
+use Rattle.vc_model.specs.Context.{Context, Slot, Running, is_run, is_stopped}
 use Rattle.vc_model.specs.Places.{AreHonest}
 use Rattle.vc_model.specs.Sound.{CountsUp, stops_by_change}
+pub use Rattle.vc_model.specs.Phases.{is_owed, is_over}
 use Rattle.vc_model.specs.Solo.{SoloEvent, Called, Finishes, SoloReply, Answered, Finished, solo_step, solo_run, solo_slot}
 use Rattle.vc_model.specs.Drains.{AtEveryStep, is_last_by_drain, gives_last, takes_capture, done_now}
 use Rattle.vc_model.specs.LastBuffers.{gives_change}
@@ -79,13 +80,6 @@ AbortedByOff =
 
 -- The LAST buffer
 
--- a LAST buffer of a drain was given, and maybe taken
-abbrev pub is_over : PhaseState → Bool
-is_over run = false
-is_over (owe cause) = false
-is_over (last cause) = is_drain cause
-is_over (stopped cause) = is_drain cause
-
 -- After the LAST buffer of a drain no CAPTURE buffer goes to done before the phase is Run again.
 abbrev pub NothingAfterLast : Type 0
 NothingAfterLast =
@@ -132,12 +126,6 @@ DrainsGiveAll =
     (events : List SoloEvent) (e : SoloEvent) (before after : Context) (r : Running) → solo_slot the_coder None events ≡ Some before → (solo_step the_coder (Some before) e).slot ≡ Some after → before.kind ≡ Dec → gives_last before after ≡ true → let seg = segment_of the_coder (events ++ e ∷ []) in seg.first ≡ Some r → whats seg ≡ results_of seg r
 
 -- Changes of the resolution
-
-abbrev pub is_owed : PhaseState → Bool
-is_owed run = false
-is_owed (owe cause) = true
-is_owed (last cause) = false
-is_owed (stopped cause) = false
 
 -- the one buffer that goes to done in a stop by a change: the empty LAST buffer that is owed; or, where START resumes the
 -- runs, that of a drain that has no source left

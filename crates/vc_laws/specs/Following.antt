@@ -1,5 +1,6 @@
 -- What the runs of a segment gave is what the sequential codec gives for what they consumed.
-use Rattle.std.specs.Prelude.{ℕ, ◌≡◌, ◌⊎◌, ◌+◌, ◌==◌, Bool, true, false, not, get_or, map, length, Some, None, List, [], ◌∷◌, ◌++◌}
+use Rattle.std.specs.Prelude.{ℕ, ◌≡◌, ◌⊎◌, ◌+◌, ◌==◌, Bool, true, false, not, get_or, map, length, Some, None, List, [], ◌∷◌}
+use mathlib.Core.List.{IsPrefix}
 use Rattle.std.specs.List.{filter, All}
 use Rattle.vc_base.specs.declared.Kind.TheVariants.{Enc, Dec}
 use Rattle.vc_base.specs.declared.Format.{Format}
@@ -8,16 +9,14 @@ use Rattle.vc_defs.specs.declared.Geometry.{Geometry}
 use Rattle.vc_defs.specs.Raw.{layout_of, planes_of, raw_of}
 use Rattle.vc_defs.specs.Decoder.{FrameResult, ResultKind, Picture, Damaged, Changed, results}
 use Rattle.vc_defs.specs.Encoder.{RunRates, Encoded, encoded, encoded_bytes}
-use Rattle.vc_model.specs.Coder.{the_coder}
+use Rattle.vc_model.specs.Coder.{Coder, the_coder}
 use Rattle.vc_model.specs.Context.{Context, Running}
 use Rattle.vc_model.specs.Runs.{type_flag}
 use Rattle.vc_model.specs.Solo.{SoloEvent, solo_slot}
-use Rattle.vc_laws.specs.Segments.{SegmentResult, EncodedPicture, Segment, segment_of, whats, is_change_kind}
+use Rattle.vc_defs.specs.Outputs.{is_change_result}
+use Rattle.vc_laws.specs.Segments.{SegmentResult, EncodedPicture, Segment, segment_of, whats}
 
 -- Decoders
-
-abbrev pub IsFront : List FrameResult → List FrameResult → Type 0
-IsFront xs ys = (rest : List FrameResult) × (ys ≡ xs ++ rest)
 
 abbrev pub is_picture_kind : ResultKind → Bool
 is_picture_kind (Picture geometry key planes) = true
@@ -28,7 +27,7 @@ abbrev pub is_picture : FrameResult → Bool
 is_picture r = is_picture_kind r.kind
 
 abbrev pub is_no_change : FrameResult → Bool
-is_no_change r = not (is_change_kind r.kind)
+is_no_change r = not (is_change_result r.kind)
 
 -- what the sequential decoder gives for the segment's bytes, under the limit and from the geometry of the first run
 abbrev pub results_of : Segment → Running → List FrameResult
@@ -37,7 +36,7 @@ results_of seg r = results seg.bytes r.limit r.geometry None
 -- The results of a segment are the first of the sequential decoder's, and all of them but after a run that told a change
 -- alone; its pictures are all pictures there; and each has the stamp of the byte at its position.
 pub record FollowsDecoder (seg : Segment) (r : Running) : Type 0 where
-  pub front : IsFront (whats seg) (results_of seg r)
+  pub front : IsPrefix (whats seg) (results_of seg r)
   pub all : seg.given ≡ true → whats seg ≡ results_of seg r
   pub pictures : filter is_picture (whats seg) ≡ filter is_picture (results_of seg r)
   pub stamps : All (λ (x : SegmentResult). x.stamp ≡ get_or seg.stamps x.what.position zero_stamp) seg.results
@@ -69,14 +68,14 @@ abbrev pub coded_picture : EncodedPicture → List (List ℕ) × RunRates
 coded_picture p = (planes_of p.format.fourcc p.format.width p.format.height p.bytes, p.rates)
 
 -- what the sequential encoder gives for the pictures of the segment
-abbrev pub frames_of : Segment → Format → List Encoded
-frames_of seg format = encoded (geometry_of format) (map coded_picture seg.pictures)
+abbrev pub sequential_frames : Segment → Format → List Encoded
+sequential_frames seg format = encoded (geometry_of format) (map coded_picture seg.pictures)
 
 -- The frames of a segment are those of the sequential encoder for its pictures, which all have the present format.
 pub record FollowsEncoder (seg : Segment) (format : Format) : Type 0 where
   pub formats : All (λ (p : EncodedPicture). p.format ≡ format) seg.pictures
-  pub frames : map (λ (p : EncodedPicture). p.frame) seg.pictures ≡ map encoded_bytes (frames_of seg format)
-  pub keys : map (λ (p : EncodedPicture). p.key) seg.pictures ≡ map (λ (e : Encoded). e.header.key) (frames_of seg format)
+  pub frames : map (λ (p : EncodedPicture). p.frame) seg.pictures ≡ map encoded_bytes (sequential_frames seg format)
+  pub keys : map (λ (p : EncodedPicture). p.key) seg.pictures ≡ map (λ (e : Encoded). e.header.key) (sequential_frames seg format)
 
 abbrev pub EncoderFollows : Type 0
 EncoderFollows =
@@ -118,3 +117,17 @@ by_runs bs = filter is_by_run bs
 abbrev pub RetiredAreResults : Type 0
 RetiredAreResults =
     (events : List SoloEvent) (c : Context) → solo_slot the_coder None events ≡ Some c → c.kind ≡ Dec → let seg = segment_of the_coder events in OneForOne (in_buffers seg.results) (by_runs seg.retired)
+
+-- the CAPTURE buffer is that of the picture's frame: the frame's bytes, their number, its flags and the picture's stamp
+abbrev pub IsFrameIn : EncodedPicture → Buffer → Type 0
+IsFrameIn p b = (b.bytes ≡ p.frame) × (b.used ≡ length p.frame) × (b.stamp ≡ p.stamp) × HasFlags b.flags (type_flag p.key)
+
+abbrev pub FrameForFrame : List EncodedPicture → List Buffer → Type 0
+FrameForFrame [] [] = Unit {0}
+FrameForFrame (p ∷ ps) (b ∷ bs) = IsFrameIn p b × FrameForFrame ps bs
+FrameForFrame _ _ = ⊥
+
+-- The CAPTURE buffers that an encoder's runs put on done are the frames of the segment, one for one.
+abbrev pub RetiredAreFrames : Type 0
+RetiredAreFrames =
+    (coder : Coder) (events : List SoloEvent) (c : Context) → solo_slot coder None events ≡ Some c → c.kind ≡ Enc → let seg = segment_of coder events in FrameForFrame seg.pictures (by_runs seg.retired)

@@ -2,3 +2,4 @@ pub mod Drains
 pub mod Following
 pub mod SegmentRows
 pub mod Segments
+pub mod Taking

@@ -10,8 +10,9 @@ use Rattle.vc_base.specs.declared.Call.TheVariants.{SetFmt, ReqBufs, QBuf, Strea
 use Rattle.vc_base.specs.declared.Reply.{Reply}
 use Rattle.vc_base.specs.declared.Reply.TheVariants.{Done, Fmt, Count}
 use Rattle.vc_base.specs.Buffers.{Buffer}
-use Rattle.vc_defs.specs.Decoder.{FrameResult, ResultKind, Picture, Damaged, Changed, DecodedStep, moved_result}
+use Rattle.vc_defs.specs.Decoder.{FrameResult, DecodedStep, moved_result}
 use Rattle.vc_defs.specs.Encoder.{RunRates, EncodedFrame}
+use Rattle.vc_defs.specs.Outputs.{is_change_result}
 use Rattle.vc_model.specs.Coder.{Coder, CodecState, no_codec, encoder, decoder}
 use Rattle.vc_model.specs.Context.{Context, Slot, Running, is_dec, is_enc}
 use Rattle.vc_model.specs.Runs.{JobData, job_data, RunResult, copied, encoded, decoded, run_result}
@@ -97,15 +98,10 @@ with_result results from fourcc stamp None = results
 with_result results from fourcc stamp (Some r) =
     results ++ record { what = moved_result from r; stamp = stamp; fourcc = fourcc } ∷ []
 
--- a change alone may leave a result of its frame to be given
-abbrev pub is_change_kind : ResultKind → Bool
-is_change_kind (Picture geometry key planes) = false
-is_change_kind Damaged = false
-is_change_kind (Changed geometry) = true
-
+-- a run that gave a change alone: a result of its frame may be left to be given
 abbrev pub is_change : Option FrameResult → Bool
 is_change None = false
-is_change (Some r) = is_change_kind r.kind
+is_change (Some r) = is_change_result r.kind
 
 -- the number of bytes that the decoder kept
 abbrev pub tail_length : CodecState → ℕ

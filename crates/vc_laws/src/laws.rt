@@ -3,7 +3,8 @@
 //! interface, in the Linux userspace API documentation.
 
 ghost use Rattle.vc_laws.specs.Drains.{AbortedByOff, AllWentBack, ChangesStop, DrainsAreWhole, DrainsBeginAtStop, DrainsGiveAll, FrameAfterChange, MarksStay, NothingAfterLast, ResultsBeforeChange, SameDrainsSameResults, StopsByChange};
-ghost use Rattle.vc_laws.specs.Following.{EncoderFollows, Follows, RetiredAreResults, SegmentsBegin};
+ghost use Rattle.vc_laws.specs.Taking.{DoneIsRetired, FramesAreHandedOut, HandedInOrder, PicturesAreHandedOut, TakenInOrder};
+ghost use Rattle.vc_laws.specs.Following.{EncoderFollows, Follows, RetiredAreFrames, RetiredAreResults, SegmentsBegin};
 
 /// A drain begins at a STOP alone, and its mark is the number of OUTPUT buffers queued before it.
 pub fn drains_begin_at_stop()
@@ -55,6 +56,11 @@ pub fn retired_are_results()
     ensures { RetiredAreResults }
 {}
 
+/// The CAPTURE buffers that an encoder's runs put on done are the segment's frames, one for one.
+pub fn retired_are_frames()
+    ensures { RetiredAreFrames }
+{}
+
 /// Before the first run of a segment it has neither bytes nor results.
 pub fn segments_begin()
     ensures { SegmentsBegin }
@@ -83,4 +89,17 @@ pub fn frame_after_change()
 /// Neither schedule nor cutting matters to a finished drain.
 pub fn same_drains()
     ensures { SameDrainsSameResults }
+{}
+
+/// The client takes what goes to done on CAPTURE in that order, each buffer once and with its bytes.
+pub fn taken_in_order()
+    ensures steps { TakenInOrder }
+    ensures runs { HandedInOrder }
+    ensures segments { DoneIsRetired }
+{}
+
+/// What goes to done on CAPTURE has the bytes of the segment's pictures, or frames, in order, and nothing else.
+pub fn pictures_are_handed_out()
+    ensures decoders { PicturesAreHandedOut }
+    ensures encoders { FramesAreHandedOut }
 {}

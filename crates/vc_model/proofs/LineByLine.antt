@@ -25,7 +25,7 @@ use Rattle.vc_model.proofs.Seating.{jobs_are_held}
 
 -- One line of text
 
-record OneLine (text : List ℕ) : Type 0 where
+pub record OneLine (text : List ℕ) : Type 0 where
   pub front : List ℕ
   pub same : text ≡ front ++ 10 ∷ []
   pub whole : has_feed front ≡ false
@@ -39,7 +39,7 @@ cut_front [] more k e = refl
 cut_front (x ∷ front) more k e =
     cut_split x k front more (cut_front front more k (rest_of (eqb x 10) (has_feed front) e)) (eqb x 10) e
 
-cut_line : (text more : List ℕ) (k : ℕ) → OneLine text → first_lines (text ++ more) (suc k) ≡ text ++ first_lines more k
+pub cut_line : (text more : List ℕ) (k : ℕ) → OneLine text → first_lines (text ++ more) (suc k) ≡ text ++ first_lines more k
 cut_line text more k l =
     subst (λ t. first_lines (t ++ more) (suc k) ≡ t ++ first_lines more k) (sym l.same) (cut_front l.front more k l.whole)
 
@@ -112,7 +112,7 @@ comes_workers coder n d c =
 comes_exact : (coder : Coder) (n : ℕ) (d : DeviceState) → Comes coder n d → ListIsExact d
 comes_exact coder n d c = subst ListIsExact (sym c.same) (exact_list coder n c.past)
 
-comes_held : (coder : Coder) (n : ℕ) (d : DeviceState) → Comes coder n d → WorkersAreApart d
+pub comes_held : (coder : Coder) (n : ℕ) (d : DeviceState) → Comes coder n d → WorkersAreApart d
 comes_held coder n d c = subst WorkersAreApart (sym c.same) (jobs_are_held coder n c.past)
 
 -- The text of one event
@@ -133,7 +133,7 @@ front_one t d worker j n rest m z (Some c) e p =
     let h = is_there d.slots j c e in (of_line j (claim_text j) (claim_line j) (omega arith), refl)
 
 -- what a claim by a free worker prints, and whose job the worker has then
-record ClaimPrints (t : ReplyText) (worker : ℕ) (waiting : List ℕ) (step : DeviceStep) : Type 0 where
+pub record ClaimPrints (t : ReplyText) (worker : ℕ) (waiting : List ℕ) (step : DeviceStep) : Type 0 where
   pub line : OneLine (device_text t (claim worker) step.reply)
   pub job : is_empty waiting ≡ false → (j : ℕ) × (job_of step.device worker ≡ Some j)
 
@@ -144,7 +144,7 @@ first_one t d worker n (j ∷ rest) m z w e x =
     let f = front_one t d worker j n rest m z (slot_of d j) refl (sym (x.exact j) ∙ (ap (λ l. waits l j) e ∙ front_waits j rest)) in
     record { line = f.0; job = λ p. (j, ap (λ ws. get_or ws worker None) f.1 ∙ get_or-set_same d.workers worker (Some j) None w) }
 
-claim_one : (t : ReplyText) (coder : Coder) (n : ℕ) (d : DeviceState) (worker : ℕ) → n ≤ most_slots → worker < most_workers → Comes coder n d → is_none (job_of d worker) ≡ true → ClaimPrints t worker d.waiting (device_step coder d (claim worker))
+pub claim_one : (t : ReplyText) (coder : Coder) (n : ℕ) (d : DeviceState) (worker : ℕ) → n ≤ most_slots → worker < most_workers → Comes coder n d → is_none (job_of d worker) ≡ true → ClaimPrints t worker d.waiting (device_step coder d (claim worker))
 unfolding device_step
 claim_one t coder n d worker m h c free =
     let z = comes_slots coder n d c in
@@ -207,7 +207,7 @@ run_lines t coder n d worker fault more m h c true false e f =
 run_lines t coder n d worker fault more m h c false nobody e f =
     cut_line (codes "- claim busy\n") more 0 (dash_line (codes " claim busy") refl)
 
-line_cut : (t : ReplyText) (coder : Coder) (n : ℕ) (d : DeviceState) (asked : Asked) (text more : List ℕ) → IsLineText t → n ≤ most_slots → IsAsked n asked → Comes coder n d → first_lines (line_text t coder d asked (line_events t d asked text) ++ more) (lines_printed d asked) ≡ line_text t coder d asked (line_events t d asked text)
+pub line_cut : (t : ReplyText) (coder : Coder) (n : ℕ) (d : DeviceState) (asked : Asked) (text more : List ℕ) → IsLineText t → n ≤ most_slots → IsAsked n asked → Comes coder n d → first_lines (line_text t coder d asked (line_events t d asked text) ++ more) (lines_printed d asked) ≡ line_text t coder d asked (line_events t d asked text)
 line_cut t coder n d AsksNothing text more l m a c = refl
 line_cut t coder n d (AsksCall slot request bytes) text more l m a c =
     cut_one (device_text t (call slot request bytes (found_in t slot request text)) (device_step coder d (call slot request bytes (found_in t slot request text))).reply) more (call_one t coder n d slot request bytes (found_in t slot request text) l m a.0 c)
@@ -258,14 +258,14 @@ empty_of [] at b e p = refl
 empty_of (x ∷ report) at true e p = absurd (false≢true e)
 empty_of (x ∷ report) at false e p = absurd (cc)
 
-right_from : (t : ReplyText) (coder : Coder) (d : DeviceState) (lines : List Asked) (report : List ℕ) (at : ℕ) → wrong_from t coder d lines report at ≡ None → report ≡ script_text t coder d lines report
+pub right_from : (t : ReplyText) (coder : Coder) (d : DeviceState) (lines : List Asked) (report : List ℕ) (at : ℕ) → wrong_from t coder d lines report at ≡ None → report ≡ script_text t coder d lines report
 right_from t coder d [] report at p = empty_of report at (is_empty report) refl p
 right_from t coder d (asked ∷ rest) report at p =
     let text = printed_by d asked report in
     let es = line_events t d asked text in
     right_split t coder d asked rest report at (right_from t coder (device_after coder d es) rest (drop (length text) report) (at + lines_printed d asked)) (bytes_eq text (line_text t coder d asked es)) refl _ p
 
-found_from : (t : ReplyText) (coder : Coder) (d : DeviceState) (lines : List Asked) (report : List ℕ) (at : ℕ) → PrintsLines t coder d lines report → wrong_from t coder d lines report at ≡ None
+pub found_from : (t : ReplyText) (coder : Coder) (d : DeviceState) (lines : List Asked) (report : List ℕ) (at : ℕ) → PrintsLines t coder d lines report → wrong_from t coder d lines report at ≡ None
 found_from t coder d [] report at p = ap (λ r. cond (is_empty r) None (Some at)) p
 found_from t coder d (asked ∷ rest) report at p =
     let text = printed_by d asked report in

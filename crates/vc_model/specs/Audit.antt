@@ -80,3 +80,8 @@ pub record FindsRight (t : ReplyText) (coder : Coder) (n : ℕ) (lines : List As
 abbrev pub ReplayFindsRight : Type 0
 ReplayFindsRight =
     (t : ReplyText) (coder : Coder) (n : ℕ) (lines : List Asked) (report : List ℕ) → FindsRight t coder n lines report
+
+-- Where the replay finds a line, it is the first wrong one.
+abbrev pub ReplayFindsFirst : Type 0
+ReplayFindsFirst =
+    (t : ReplyText) (coder : Coder) (n : ℕ) (lines : List Asked) (report : List ℕ) (line : ℕ) → IsLineText t → n ≤ most_slots → AreAsked n lines → first_wrong_line t coder n lines report ≡ Some line → IsFirstWrong t coder n lines report line

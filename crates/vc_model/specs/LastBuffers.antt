@@ -1,9 +1,10 @@
 -- The flag LAST ("Drain" and "Dynamic Resolution Change" of the stateful decoder, "Drain" of the stateful encoder): it is on the
 -- buffer with which a drain or a change of the resolution ends, and on no other.
-use Rattle.std.specs.Prelude.{ℕ, ◌≡◌, ◌+◌, Bool, true, false, not, ◌&&◌, ◌||◌, ◌==◌, if◌then◌else◌, bit_and, List, [], ◌∷◌}
+use Rattle.std.specs.Prelude.{ℕ, ◌≡◌, ◌+◌, Bool, true, not, ◌&&◌, ◌||◌, ◌==◌, if◌then◌else◌, bit_and, List, [], ◌∷◌}
 use Rattle.vc_base.specs.Buffers.{Buffer, last_flag}
-use Rattle.vc_model.specs.Context.{Context, PhaseState, run, owe, last, stopped, is_drain}
+use Rattle.vc_model.specs.Context.{Context}
 use Rattle.vc_model.specs.Sound.{ends_with_last}
+pub use Rattle.vc_model.specs.Phases.{is_last_by_change}
 use Rattle.vc_model.specs.Drains.{gives_last, done_now, AtEveryStep}
 
 abbrev pub has_last : Buffer → Bool
@@ -13,12 +14,6 @@ has_last b = bit_and b.flags last_flag == last_flag
 abbrev pub count_last : List Buffer → ℕ
 count_last [] = 0
 count_last (b ∷ bs) = (if has_last b then 1 else 0) + count_last bs
-
-abbrev pub is_last_by_change : PhaseState → Bool
-is_last_by_change run = false
-is_last_by_change (owe cause) = false
-is_last_by_change (last cause) = not (is_drain cause)
-is_last_by_change (stopped cause) = false
 
 -- a step in which a CAPTURE buffer goes to done with LAST for a change of the resolution
 abbrev pub gives_change : Context → Context → Bool

@@ -10,8 +10,9 @@ use Rattle.vc_defs.specs.declared.Geometry.{Geometry}
 use Rattle.vc_defs.specs.Raw.{grey, yu12, nv12, yuyv, same_fourcc, layout_of}
 use Rattle.vc_model.specs.Formats.{FormatPair, raw_format}
 use Rattle.vc_model.specs.Coder.{CodecState, no_codec, encoder, decoder}
-use Rattle.vc_model.specs.Context.{Context, Slot, Running, RunSort, copy, encode, decode, probe, PhaseState, run, owe, last, stopped, is_run, is_drain, is_drained, is_dec, sizeimage}
+use Rattle.vc_model.specs.Context.{Context, Slot, Running, RunSort, copy, encode, decode, probe, PhaseState, run, owe, last, stopped, is_run, is_drained, is_dec, sizeimage}
 use Rattle.vc_model.specs.Runs.{sort_of, run_format}
+pub use Rattle.vc_model.specs.Phases.{is_last, stops_by_change, is_at_end}
 
 -- how many buffers of the list have the index
 abbrev pub count_index : List Buffer → ℕ → ℕ
@@ -68,18 +69,6 @@ ends_with_last [] = false
 ends_with_last (b ∷ []) = bit_and b.flags last_flag == last_flag
 ends_with_last (b ∷ (d ∷ bs)) = ends_with_last (d ∷ bs)
 
-abbrev pub is_last : PhaseState → Bool
-is_last run = false
-is_last (owe cause) = false
-is_last (last cause) = true
-is_last (stopped cause) = false
-
-abbrev pub stops_by_change : PhaseState → Bool
-stops_by_change run = false
-stops_by_change (owe cause) = not (is_drain cause)
-stops_by_change (last cause) = not (is_drain cause)
-stops_by_change (stopped cause) = not (is_drain cause)
-
 -- each buffer of the list has at least that size
 abbrev pub AreLong : ℕ → List Buffer → Type 0
 AreLong least bs = list_all (λ b. nat_le least b.size) bs ≡ true
@@ -105,13 +94,6 @@ last_not_given (stopped cause) ready = false
 pub record IsSettled (c : Context) : Type 0 where
   pub noted : drain_not_noted c ≡ false
   pub given : last_not_given c.phase c.cap.ready ≡ false
-
--- the end of a drain: its LAST buffer is due or is in done
-abbrev pub is_at_end : PhaseState → Bool
-is_at_end run = false
-is_at_end (owe cause) = is_drain cause
-is_at_end (last cause) = is_drain cause
-is_at_end (stopped cause) = false
 
 -- the mark is not above the number of buffers that were queued
 abbrev pub MarkIsQueued : Option ℕ → ℕ → Type 0
