@@ -11,7 +11,7 @@ use Rattle.vc_model.specs.Coder.{the_coder}
 use Rattle.vc_model.specs.Context.{Slot}
 use Rattle.vc_model.specs.Handed.{handed_by, handed_by_call, handed_out, finishes_by_fault}
 use Rattle.vc_model.specs.Solo.{SoloEvent, Called, Claims, Finishes, SoloReply, Answered, SoloEntry, solo_step, solo_run, solo_slot}
-use Rattle.vc_core.specs.Payloads.{handed_over}
+use Rattle.vc_context.specs.Payloads.{handed_over}
 use Rattle.vc_port.specs.Payloads.{slot_after, told_at, bytes_out, good_finishes, AreOfJobs, with_call}
 use Rattle.vc_port.specs.Laws.{CallsHandOut}
 

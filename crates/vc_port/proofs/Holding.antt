@@ -11,7 +11,7 @@ use Rattle.vc_model.specs.Context.{Context, Slot}
 use Rattle.vc_model.specs.Sound.{count_index, OnceEach, IsSound, IsSoundSlot}
 use Rattle.vc_model.proofs.Fitting.{always_sound}
 use Rattle.vc_queue.specs.Holds.{HoldState, held_payload}
-use Rattle.vc_core.specs.Payloads.{FitsSlot, FitsContext}
+use Rattle.vc_context.specs.Payloads.{FitsSlot, FitsContext}
 use Rattle.vc_port.specs.Payloads.{slot_after}
 use Rattle.vc_port.specs.Laws.{held_length, HeldIsThere}
 

@@ -15,7 +15,7 @@ use Rattle.vc_model.specs.Solo.{SoloEvent, Called, solo_step}
 use Rattle.vc_model.specs.Sound.{IsSoundSlot}
 use Rattle.vc_model.proofs.Fitting.{always_sound}
 use Rattle.vc_queue.specs.Holds.{HoldState, held_payload, with_payload}
-use Rattle.vc_core.specs.Payloads.{FitsSlot, handed_out, front_bytes}
+use Rattle.vc_context.specs.Payloads.{FitsSlot, handed_out, front_bytes}
 use Rattle.vc_port.specs.Payloads.{slot_after}
 use Rattle.vc_port.specs.Laws.{BeginsWith, TakenIsHandedOut}
 use Rattle.vc_port.proofs.Handing.{slot-append}

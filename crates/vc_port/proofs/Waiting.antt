@@ -9,7 +9,7 @@ use Rattle.vc_model.specs.Coder.{the_coder}
 use Rattle.vc_model.specs.Context.{Slot}
 use Rattle.vc_model.specs.Solo.{SoloEvent, Called, Claims, Finishes, Answered, solo_step}
 use Rattle.vc_queue.specs.Holds.{HoldState}
-use Rattle.vc_core.specs.Payloads.{Moves, handed_over}
+use Rattle.vc_context.specs.Payloads.{Moves, handed_over}
 use Rattle.vc_port.specs.Payloads.{slot_after, AreOfJobs, with_call, IsCallOn, AreKept}
 use Rattle.vc_port.specs.Ports.{AnsweredCall, answered_after, LeadsOver, IsAttempt, HasWaited, IsWaitedFor}
 

@@ -13,7 +13,7 @@ use Rattle.vc_model.specs.Context.{Slot, queue_of}
 use Rattle.vc_model.specs.Handed.{handed_by_call}
 use Rattle.vc_model.specs.Solo.{SoloEvent}
 use Rattle.vc_queue.specs.Holds.{HoldState, held_payload}
-use Rattle.vc_core.specs.Payloads.{FitsSlot}
+use Rattle.vc_context.specs.Payloads.{FitsSlot}
 use Rattle.vc_port.specs.Payloads.{IsCallOn, slot_after, bytes_out, good_finishes}
 
 -- The bytes that were handed out on CAPTURE grow by those that the call hands out, and finishes are never taken back.

@@ -11,7 +11,7 @@ use Rattle.vc_model.specs.Context.{Slot}
 use Rattle.vc_model.specs.Solo.{SoloEvent, Called, Claims, Finishes, Answered, SoloEntry, solo_step, solo_run, solo_slot}
 use Rattle.vc_model.specs.Handed.{handed_out, finishes_by_fault}
 use Rattle.vc_queue.specs.Holds.{HoldState}
-use Rattle.vc_core.specs.Payloads.{Moves, handed_over}
+use Rattle.vc_context.specs.Payloads.{Moves, handed_over}
 
 -- the slot after its events, from a closed one on
 abbrev pub slot_after : List SoloEvent → Slot

@@ -6,7 +6,7 @@ ghost use Rattle.vc_base.specs.declared.Call.{Call};
 ghost use Rattle.vc_base.specs.declared.Reply.{Reply};
 ghost use Rattle.vc_model.specs.Solo.{SoloEvent};
 ghost use Rattle.vc_queue.specs.Holds.{HoldState, held_payload, with_payload, HaveOneLength, HasRoom, written_over};
-ghost use Rattle.vc_core.specs.Payloads.{FitsSlot};
+ghost use Rattle.vc_context.specs.Payloads.{FitsSlot};
 ghost use Rattle.vc_port.specs.Ports.{AnsweredCall, answered_after};
 ghost use Rattle.vc_port.specs.Payloads.{slot_after, IsCallOn, AreKept};
 
