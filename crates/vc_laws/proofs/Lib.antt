@@ -1,3 +1,4 @@
+pub mod Clients
 pub mod Decoding
 pub mod DoneNow
 pub mod Effects

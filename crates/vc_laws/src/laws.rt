@@ -3,7 +3,7 @@
 //! interface, in the Linux userspace API documentation.
 
 ghost use Rattle.vc_laws.specs.Drains.{AbortedByOff, AllWentBack, ChangesStop, DrainsAreWhole, DrainsBeginAtStop, DrainsGiveAll, FrameAfterChange, MarksStay, NothingAfterLast, ResultsBeforeChange, SameDrainsSameResults, StopsByChange};
-ghost use Rattle.vc_laws.specs.Taking.{DoneIsRetired, FramesAreHandedOut, HandedInOrder, PicturesAreHandedOut, TakenInOrder};
+ghost use Rattle.vc_laws.specs.Taking.{AllIsHandedOut, DoneIsRetired, FramesAreHandedOut, HandedInOrder, PicturesAreHandedOut, TakenInOrder};
 ghost use Rattle.vc_laws.specs.Following.{EncoderFollows, Follows, RetiredAreFrames, RetiredAreResults, SegmentsBegin};
 
 /// A drain begins at a STOP alone, and its mark is the number of OUTPUT buffers queued before it.
@@ -102,4 +102,10 @@ pub fn taken_in_order()
 pub fn pictures_are_handed_out()
     ensures decoders { PicturesAreHandedOut }
     ensures encoders { FramesAreHandedOut }
+{}
+
+/// Over a run of one segment that drops nothing and leaves nothing on done, the client gets all pictures, or frames, of the
+/// segment, in order.
+pub fn all_is_handed_out()
+    ensures { AllIsHandedOut }
 {}
