@@ -10,6 +10,7 @@ pub mod Marks
 pub mod Outcomes
 pub mod Retiring
 pub mod Segmenting
+pub mod Sourcing
 pub mod Standing
 pub mod Steps
 pub mod Taking
