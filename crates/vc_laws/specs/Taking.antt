@@ -12,12 +12,14 @@ use Rattle.vc_base.specs.declared.Reply.TheVariants.{Done, Count}
 use Rattle.vc_base.specs.Buffers.{Buffer, is_empty, taken}
 use Rattle.vc_defs.specs.Raw.{raw_of}
 use Rattle.vc_defs.specs.Decoder.{ResultKind, Picture, Damaged, Changed}
+use Rattle.vc_defs.specs.Encoder.{encoded_bytes}
 use Rattle.vc_model.specs.Coder.{Coder, the_coder}
 use Rattle.vc_model.specs.Context.{Context, Slot}
 use Rattle.vc_model.specs.Solo.{SoloEvent, Called, SoloReply, Answered, solo_step, solo_run, solo_slot}
 use Rattle.vc_model.specs.Drains.{AtEveryStep, takes_capture, done_now}
 use Rattle.vc_model.specs.Handed.{handed_out}
 use Rattle.vc_laws.specs.Segments.{SegmentResult, resets, segment_of}
+use Rattle.vc_laws.specs.Following.{sequential_frames}
 
 -- the calls that drop what is on CAPTURE's done list, where they are answered so
 abbrev pub call_drops : Context → Call → Reply → Bool
@@ -121,10 +123,11 @@ pub record IsTakenWhole (coder : Coder) (events more : List SoloEvent) (d : Cont
 abbrev pub handed_in : Coder → List SoloEvent → List SoloEvent → List ℕ
 handed_in coder events more = handed_out (solo_run coder (solo_slot coder None events) more)
 
--- Over such a run the client of a decoder gets the pictures of the segment, and that of an encoder its frames.
+-- Over such a run the client of a decoder gets the pictures of the segment, and that of an encoder the sequential encoder's
+-- frames for the pictures that were consumed.
 pub record ClientsGetAll (events more : List SoloEvent) (d : Context) : Type 0 where
   pub decoders : d.kind ≡ Dec → IsTakenWhole the_coder events more d → handed_in the_coder events more ≡ flat_map bytes_of_result (segment_of the_coder (events ++ more)).results
-  pub encoders : d.kind ≡ Enc → IsTakenWhole the_coder events more d → handed_in the_coder events more ≡ flat_map (λ p. p.frame) (segment_of the_coder (events ++ more)).pictures
+  pub encoders : d.kind ≡ Enc → IsTakenWhole the_coder events more d → handed_in the_coder events more ≡ flat_map encoded_bytes (sequential_frames (segment_of the_coder (events ++ more)) d.formats.out)
 
 abbrev pub AllIsHandedOut : Type 0
 AllIsHandedOut = (events more : List SoloEvent) (d : Context) → ClientsGetAll events more d

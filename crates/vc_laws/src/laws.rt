@@ -111,8 +111,8 @@ pub fn pictures_are_handed_out()
     ensures encoders { FramesAreHandedOut }
 {}
 
-/// Over a run of one segment that drops nothing and leaves nothing on done, the client gets all pictures, or frames, of the
-/// segment, in order.
+/// Over a run of one segment that drops nothing and leaves nothing on done, the client gets all pictures of the segment, or the
+/// sequential encoder's frames for the pictures that were consumed, in order.
 pub fn all_is_handed_out()
     ensures { AllIsHandedOut }
 {}
