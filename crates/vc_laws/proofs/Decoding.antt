@@ -22,7 +22,7 @@ use Rattle.vc_model.specs.Solo.{SoloEvent, Called, Claims, Finishes, SoloReply, 
 use Rattle.vc_model.specs.Sound.{CountsUp, HasCodec, dest_count, IsOrdered, IsOrderedSlot}
 use Rattle.vc_model.specs.Drains.{done_now}
 use Rattle.vc_defs.specs.Outputs.{is_change_result}
-use Rattle.vc_laws.specs.Segments.{Segment, fresh_segment, call_resets, call_adds, first_of, with_result, is_change, tail_length, after_run, after_decode, segment_of_step, segment_of_slots, segment_step, segment_of}
+use Rattle.vc_laws.specs.Segments.{Segment, fresh_segment, call_resets, call_adds, first_of, with_result, gave_change, tail_length, after_run, after_decode, segment_of_step, segment_of_slots, segment_step, segment_of}
 use Rattle.vc_laws.specs.Following.{OneForOne, in_buffers, is_by_run, by_runs}
 use Rattle.vc_laws.proofs.Effects.{CodecAfterFormat, CodecAfterBuffers, CodecAfterOutput, CodecAfterCapture, MarkAfterLast, Settles, still, owes, gives, Effect, stays, closes, has_events, has_rates, has_out_format, has_cap_format, has_out_buffers, has_cap_buffers, adds_out, adds_cap, queues_out, queues_cap, takes_out, takes_cap, takes_last, streams_out, streams_cap, stops_out, stops_cap, rests_cap, sets_mark, starts}
 use Rattle.vc_laws.proofs.Steps.{moved_out, probes, runs, HasJob, Puts, puts_fault, puts_copy, puts_frame, puts_picture, puts_damage, Ends, alone, kept, ended, halts, spends, Step, calls, rests, lacks_job, claims, finishes, faults, step_of}
@@ -308,22 +308,22 @@ ended_count c j b x (halts step r geometry k phase events g q back p) = moved_co
 ended_count c j b x (spends step k g back) = moved_count c.out b 0 0 true
 
 -- after a change the source waits, before the mark
-puts_no_change : {A : Type 0} → (c : Context) (j : JobData) (b : Buffer) (step : DecodedStep) (result : Option RunResult) (up : Bool) (flags cursor : ℕ) (codec : CodecState) (used : ℕ) (bytes : List ℕ) (dest_flags : ℕ) (stamp : Stamp) → result ≡ Some (decoded step) → is_change step.given ≡ true → Puts c j b result up flags cursor codec used bytes dest_flags stamp → A
+puts_no_change : {A : Type 0} → (c : Context) (j : JobData) (b : Buffer) (step : DecodedStep) (result : Option RunResult) (up : Bool) (flags cursor : ℕ) (codec : CodecState) (used : ℕ) (bytes : List ℕ) (dest_flags : ℕ) (stamp : Stamp) → result ≡ Some (decoded step) → gave_change step.given ≡ true → Puts c j b result up flags cursor codec used bytes dest_flags stamp → A
 puts_no_change c j b step result up flags cursor codec used bytes dest_flags stamp e n (puts_fault k) = absurd (cc)
 puts_no_change c j b step result up flags cursor codec used bytes dest_flags stamp e n (puts_copy xs k) = absurd (cc)
 puts_no_change c j b step result up flags cursor codec used bytes dest_flags stamp e n (puts_frame frame k) = absurd (cc)
 puts_no_change c j b step result up flags cursor codec used bytes dest_flags stamp e n (puts_picture now r geometry key planes g k) =
     let same : now ≡ step = cc in
-    absurd (false≢true (ap is_change_result (sym k) ∙ (ap is_change (sym g) ∙ (ap (λ s. is_change s.given) same ∙ n))))
+    absurd (false≢true (ap is_change_result (sym k) ∙ (ap gave_change (sym g) ∙ (ap (λ s. gave_change s.given) same ∙ n))))
 puts_no_change c j b step result up flags cursor codec used bytes dest_flags stamp e n (puts_damage now r g k) =
     let same : now ≡ step = cc in
-    absurd (false≢true (ap is_change_result (sym k) ∙ (ap is_change (sym g) ∙ (ap (λ s. is_change s.given) same ∙ n))))
+    absurd (false≢true (ap is_change_result (sym k) ∙ (ap gave_change (sym g) ∙ (ap (λ s. gave_change s.given) same ∙ n))))
 
 back_due : (b : Buffer) (rest : List Buffer) (cursor : ℕ) (mark : Option ℕ) → front_is_due (b ∷ []) mark ≡ true → front_is_due (record b { cursor = cursor } ∷ rest) mark ≡ true
 back_due b rest cursor None e = refl
 back_due b rest cursor (Some m) e = e
 
-ended_pending : (c : Context) (j : JobData) (b : Buffer) (step : DecodedStep) {result : Option RunResult} (x : Context) → result ≡ Some (decoded step) → is_change step.given ≡ true → front_is_due (b ∷ []) c.mark ≡ true → Ends c j b result x → front_is_due (x.out.job ++ x.out.ready) x.mark ≡ true
+ended_pending : (c : Context) (j : JobData) (b : Buffer) (step : DecodedStep) {result : Option RunResult} (x : Context) → result ≡ Some (decoded step) → gave_change step.given ≡ true → front_is_due (b ∷ []) c.mark ≡ true → Ends c j b result x → front_is_due (x.out.job ++ x.out.ready) x.mark ≡ true
 ended_pending c j b step {result = result} x e n d (alone up flags cursor codec used bytes dest_flags stamp p k) =
     puts_no_change c j b step result up flags cursor codec used bytes dest_flags stamp e n p
 ended_pending c j b step {result = result} x e n d (kept up flags cursor codec used bytes dest_flags stamp z p k) =
@@ -332,7 +332,7 @@ ended_pending c j b step {result = result} x e n d (ended flags cursor codec use
     puts_no_change c j b step result up flags cursor codec used bytes dest_flags stamp e n p
 ended_pending c j b step x e n d (halts now r geometry k phase events g q back p) = back_due b c.out.ready (b.cursor + now.moved) c.mark d
 ended_pending c j b step x e n d (spends now k g back) =
-    let same : now ≡ step = cc in absurd (false≢true (ap is_change (sym g) ∙ (ap (λ s. is_change s.given) same ∙ n)))
+    let same : now ≡ step = cc in absurd (false≢true (ap gave_change (sym g) ∙ (ap (λ s. gave_change s.given) same ∙ n)))
 
 -- Where the decoder stands at its run
 
@@ -384,9 +384,9 @@ blank_run c r state seg d t h g =
     let source = source_of c.out.job in
     subst (λ z. IsBlankStep (decode state z r.limit (drop source.cursor source.bytes) source.stamp)) (sym (t.geometry ∙ g)) (blank_step state r.limit (drop source.cursor source.bytes) source.stamp (subst IsBlank d (h.blank g)))
 
-blank_reference : (step : DecodedStep) → IsBlankStep step → (o : Option FrameResult) → step.given ≡ o → is_change o ≡ false → step.state.reference ≡ None
+blank_reference : (step : DecodedStep) → IsBlankStep step → (o : Option FrameResult) → step.given ≡ o → gave_change o ≡ false → step.state.reference ≡ None
 blank_reference step (gives_none g r) o e n = r
-blank_reference step (gives_change f g k) o e n = absurd (false≢true (sym n ∙ (ap is_change (sym e ∙ g) ∙ k)))
+blank_reference step (gives_change f g k) o e n = absurd (false≢true (sym n ∙ (ap gave_change (sym e ∙ g) ∙ k)))
 
 kind_then : (step : DecodedStep) (f : FrameResult) (kind : ResultKind) (g : Option Geometry) → (g ≡ None → IsBlankStep step) → step.given ≡ Some f → f.kind ≡ kind → geometry_after_kind kind g ≡ None → step.state.reference ≡ None
 kind_then step f (Picture geometry key planes) g h e k n = blank_reference step (h n) (Some f) e (ap is_change_result k)
@@ -425,7 +425,7 @@ finish_decoder seg c r job x y word s t k h ends u =
       blank = λ z. subst IsBlank (sym codec) (given_then_blank step step.given c.geometry (λ g. blank_run c r state seg there.1 run h g) refl (sym geometry ∙ z));
       limit = λ q (z : first_of seg.first r ≡ Some q). first_limit seg c r run h seg.first refl q z ∙ sym size;
       pairs = subst (λ l. OneForOne l (by_runs ret)) (sym (buffers_more seg.results from r.format.fourcc step.stamp step.given)) (subst (OneForOne (in_buffers seg.results ++ in_buffers (with_result [] from r.format.fourcc step.stamp step.given))) (sym (filter-append is_by_run seg.retired (done_now c y))) (pairs_append (in_buffers seg.results) (in_buffers (with_result [] from r.format.fourcc step.stamp step.given)) (by_runs seg.retired) (by_runs (done_now c y)) h.pairs gave));
-      pending = λ (z : cond (is_change step.given) false true ≡ false). ap (λ q. front_is_due (q.job ++ q.ready) y.mark) settled.3 ∙ (ap (λ m. front_is_due (x.out.job ++ x.out.ready) m) settled.4 ∙ ended_pending c j job.source step x some (change_is (is_change step.given) z) due ends);
+      pending = λ (z : cond (gave_change step.given) false true ≡ false). ap (λ q. front_is_due (q.job ++ q.ready) y.mark) settled.3 ∙ (ap (λ m. front_is_due (x.out.job ++ x.out.ready) m) settled.4 ∙ ended_pending c j job.source step x some (change_is (gave_change step.given) z) due ends);
       stands = λ resuming q z. subst (λ w. IsStanding q.limit q.geometry ran.bytes ran.stamps ran.results ran.given w y.geometry) (sym codec) (subst (λ w. IsStanding q.limit q.geometry ran.bytes ran.stamps ran.results ran.given (decoder step.state) w) (sym geometry) (standing_then resuming seg c r state there.1 run h q z));
     })
   where

@@ -114,7 +114,7 @@ slot_frames coder seg c request bytes found reply handed (Some y) n w =
     λ k. call_frames coder seg c y request bytes found reply handed (no_runs_is c y n) w (call_resets c request reply) refl
 
 -- the run of an encoder encodes
-encodes_by : (coder : Coder) (c : Context) (r : Running) (codec : CodecState) → c.codec ≡ codec → HasCodec Enc codec → c.kind ≡ Enc → IsRunOf c r → (f : EncodedFrame) × (run_result coder (job_data c r) ≡ encoded f)
+pub encodes_by : (coder : Coder) (c : Context) (r : Running) (codec : CodecState) → c.codec ≡ codec → HasCodec Enc codec → c.kind ≡ Enc → IsRunOf c r → (f : EncodedFrame) × (run_result coder (job_data c r) ≡ encoded f)
 unfolding run_result
 encodes_by coder c r no_codec e h k t = absurd h
 encodes_by coder c r (decoder state) e h k t = absurd h

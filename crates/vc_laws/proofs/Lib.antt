@@ -1,3 +1,4 @@
+pub mod Clients
 pub mod Decoding
 pub mod DoneNow
 pub mod Effects
@@ -9,6 +10,7 @@ pub mod Marks
 pub mod Outcomes
 pub mod Retiring
 pub mod Segmenting
+pub mod Sourcing
 pub mod Standing
 pub mod Steps
 pub mod Taking

@@ -16,7 +16,7 @@ use Rattle.vc_defs.specs.Laws.{Resuming, IsReached, TellsNext, from_start, prese
 use Rattle.vc_defs.proofs.ResultOrder.{results_are_ordered, results_stay, results_are_inside}
 use Rattle.vc_model.specs.Coder.{CodecState, decoder}
 use Rattle.vc_defs.specs.Outputs.{is_change_result}
-use Rattle.vc_laws.specs.Segments.{SegmentResult, with_result, is_change}
+use Rattle.vc_laws.specs.Segments.{SegmentResult, with_result, gave_change}
 use Rattle.vc_laws.specs.Following.{is_picture, is_picture_kind}
 
 -- each result has the stamp of the byte at its position, which is one of the segment's
@@ -122,7 +122,7 @@ moved_by step more o = elim o as (λ _. List ℕ) [
 abbrev pub StandsAfter : ℕ → Option Geometry → List ℕ → List Stamp → List SegmentResult → DecodedStep → List ℕ → Stamp → Fourcc → ℕ → Option Geometry → Option FrameResult → Type 0
 StandsAfter limit g bytes stamps found step more stamp fourcc from present o =
     let moved = moved_by step more o in
-    IsStanding limit g (bytes ++ moved) (stamps ++ replicate (length moved) stamp) (with_result found from fourcc step.stamp o) (cond (is_change o) false true) (decoder step.state) (geometry_after o present)
+    IsStanding limit g (bytes ++ moved) (stamps ++ replicate (length moved) stamp) (with_result found from fourcc step.stamp o) (cond (gave_change o) false true) (decoder step.state) (geometry_after o present)
 
 end_length : {A : Type 0} → (xs : List A) (x : A) → length (xs ++ x ∷ []) ≡ suc (length xs)
 end_length xs x = let n = length-append xs (x ∷ []) in omega arith

@@ -1,5 +1,5 @@
 -- The client gets what goes to done on CAPTURE in order, each buffer once.
-use Rattle.std.proofs.Common.{ℕ, ◌≡◌, ◌≤◌, ◌+◌, nat_le, ◌&&◌, Bool, true, false, cond, Option, Some, None, List, [], ◌∷◌, ◌++◌, take, refl, sym, ap, ◌∙◌, subst, arith}
+use Rattle.std.proofs.Common.{ℕ, ◌≡◌, ◌≤◌, ◌+◌, nat_le, ◌&&◌, Bool, true, false, not, cond, Option, Some, None, List, [], ◌∷◌, ◌++◌, take, refl, sym, ap, ◌∙◌, subst, arith}
 use Rattle.std.proofs.lemmas.Bool.{false≢true, le-leb}
 use Rattle.std.proofs.lemmas.List.{append-nil, append_assoc}
 use Rattle.std.proofs.lemmas.List.Folds.{list_all-append}
@@ -11,7 +11,7 @@ use Rattle.vc_base.specs.declared.Call.{Call}
 use Rattle.vc_base.specs.declared.Call.TheVariants.{DqBuf}
 use Rattle.vc_base.specs.declared.Reply.{Reply}
 use Rattle.vc_base.specs.declared.Reply.TheVariants.{Taken}
-use Rattle.vc_base.specs.Buffers.{Buffer, QueueState, known_bytes, last_flag, zero_stamp, take_front, dqbuf_refusal, taken}
+use Rattle.vc_base.specs.Buffers.{is_empty, Buffer, QueueState, known_bytes, last_flag, zero_stamp, take_front, dqbuf_refusal, taken}
 use Rattle.vc_model.specs.Coder.{Coder}
 use Rattle.vc_model.specs.Context.{Context, Slot, Running, run, stopped}
 use Rattle.vc_model.specs.Answer.{answer, context_answer, unless_or_block, taken_answer, is_ended}
@@ -26,7 +26,7 @@ use Rattle.vc_laws.specs.Taking.{drops, front_taken, IsTakenInOrder, TakenInOrde
 use Rattle.vc_laws.proofs.Effects.{Settles, still, owes, gives, Effect, stays, closes, has_events, has_rates, has_out_format, has_cap_format, has_out_buffers, has_cap_buffers, adds_out, adds_cap, queues_out, queues_cap, takes_out, takes_cap, takes_last, streams_out, streams_cap, stops_out, stops_cap, rests_cap, sets_mark, starts}
 use Rattle.vc_laws.proofs.Steps.{Ends, alone, kept, ended, halts, spends, Returns, none_taken, given_back, probes, runs, Step, calls, rests, lacks_job, claims, finishes, faults, step_of}
 use Rattle.vc_laws.proofs.Tidy.{IsTidy, TidySlot, always_tidy, slot_tidy}
-use Rattle.vc_laws.proofs.DoneNow.{Made, made_now, made_rest}
+use Rattle.vc_laws.proofs.DoneNow.{Made, made_now, made_none, made_rest}
 
 -- CAPTURE's done list and what is new at its end
 
@@ -102,20 +102,29 @@ abbrev OrderAt : Context → Bool → Context → Type 0
 OrderAt c took y = front_taken took c.cap.done ++ y.cap.done ≡ c.cap.done ++ done_now c y
 
 OrderSlot : Context → SoloEvent → SoloReply → Slot → Type 0
-OrderSlot c e told None = drops e told ≡ true
-OrderSlot c e told (Some y) = drops e told ≡ false → OrderAt c (takes_capture e told) y
+OrderSlot c e told None = Unit {0}
+OrderSlot c e told (Some y) = drops c e told ≡ false → OrderAt c (takes_capture e told) y
 
 not_taken : (c y : Context) (e : SoloEvent) (told : SoloReply) → takes_capture e told ≡ false → AreInOrder c y → OrderSlot c e told (Some y)
 unfolding OrderSlot AreInOrder
 not_taken c y e told n o d = subst (λ b. OrderAt c b y) (sym n) o
 
-dropped : (c y : Context) (e : SoloEvent) (told : SoloReply) → drops e told ≡ true → OrderSlot c e told (Some y)
+closed : (c : Context) (e : SoloEvent) (told : SoloReply) → OrderSlot c e told None
 unfolding OrderSlot
-dropped c y e told n d = absurd (false≢true (sym d ∙ n))
+closed c e told = tt
 
-closed : (c : Context) (e : SoloEvent) (told : SoloReply) → drops e told ≡ true → OrderSlot c e told None
+none_there : (done : List Buffer) → not (is_empty done) ≡ false → done ≡ []
+none_there [] d = refl
+none_there (b ∷ bs) d = absurd (false≢true (sym d))
+
+-- a list that is emptied where nothing was on it
+emptied : (c y : Context) (e : SoloEvent) (told : SoloReply) → takes_capture e told ≡ false → drops c e told ≡ not (is_empty c.cap.done) → y.cap.done ≡ [] → OrderSlot c e told (Some y)
 unfolding OrderSlot
-closed c e told n = n
+emptied c y e told n q z d =
+    let none : c.cap.done ≡ [] = none_there c.cap.done (sym q ∙ d) in
+    let new : done_now c y ≡ [] = made_now c y [] (made_none c y z) in
+    let both : y.cap.done ≡ c.cap.done ++ done_now c y = z ∙ (sym (ap (λ l. l ++ []) none) ∙ ap (λ l. c.cap.done ++ l) (sym new)) in
+    subst (λ b. OrderAt c b y) (sym n) both
 
 front_order : (c y : Context) (b : Buffer) (rest : List Buffer) → c.cap.done ≡ b ∷ rest → y.cap.done ≡ rest → IsTidy c → OrderAt c true y
 front_order c y b rest e d t =
@@ -128,13 +137,13 @@ took c y e told n o d = subst (λ b. OrderAt c b y) (sym n) o
 
 effect_order : (c : Context) {request : Call} {bytes : List ℕ} {reply : Reply} {slot : Slot} (found : Bool) (handed : List ℕ) → IsTidy c → Effect c request bytes reply slot → OrderSlot c (Called request bytes found) (Answered reply handed) slot
 effect_order c found handed t (stays n) = not_taken c c _ _ n.no_take (same_order c c refl t)
-effect_order c found handed t (closes n) = closed c _ _ refl
+effect_order c found handed t (closes n) = closed c _ _
 effect_order c found handed t (has_events events n) = not_taken c _ _ _ n.no_take (same_order c _ refl t)
 effect_order c found handed t (has_rates rates) = not_taken c _ _ _ refl (same_order c _ refl t)
 effect_order c found handed t (has_out_format codec geometry o q k) = not_taken c _ _ _ refl (same_order c _ refl t)
 effect_order c found handed t (has_cap_format q) = not_taken c _ _ _ refl (same_order c _ refl t)
 effect_order c found handed t (has_out_buffers size codec geometry o k) = not_taken c _ _ _ refl (same_order c _ refl t)
-effect_order c found handed t (has_cap_buffers size o) = dropped c _ _ _ refl
+effect_order c found handed t (has_cap_buffers size o) = emptied c _ _ _ refl refl refl
 effect_order c found handed t adds_out = not_taken c _ _ _ refl (same_order c _ refl t)
 effect_order c found handed t adds_cap = not_taken c _ _ _ refl (same_order c _ refl t)
 effect_order c found handed t (queues_out b e) = not_taken c _ _ _ refl (same_order c _ refl t)
@@ -145,8 +154,8 @@ effect_order c found handed t (takes_last b cause mark d p m) = took c (record c
 effect_order c found handed t streams_out = not_taken c _ _ _ refl (same_order c _ refl t)
 effect_order c found handed t (streams_cap y s) = not_taken c y _ _ refl (then_order c _ y refl refl t s)
 effect_order c found handed t (stops_out codec n k) = not_taken c _ _ _ refl (same_order c _ refl t)
-effect_order c found handed t (stops_cap codec n o k) = dropped c _ _ _ refl
-effect_order c found handed t (rests_cap n o) = dropped c _ _ _ refl
+effect_order c found handed t (stops_cap codec n o k) = emptied c _ _ _ refl refl refl
+effect_order c found handed t (rests_cap n o) = emptied c _ _ _ refl refl refl
 effect_order c found handed t (sets_mark y n i b m d s) = not_taken c y _ _ n.no_take (then_order c _ y refl refl t s)
 effect_order c found handed t (starts y n i b e s) =
     not_taken c y _ _ n.no_take (then_order c (record c { phase = run }) y refl refl t s)
@@ -201,7 +210,7 @@ told_handed coder c (Called request bytes found) n =
 told_handed coder c Claims n = absurd (false≢true n)
 told_handed coder c (Finishes fault) n = absurd (false≢true n)
 
-step_taken : (coder : Coder) (c y : Context) (e : SoloEvent) → IsOrdered c → IsTidy c → (solo_step coder (Some c) e).slot ≡ Some y → drops e (solo_step coder (Some c) e).told ≡ false → IsTakenInOrder c e (solo_step coder (Some c) e).told y
+step_taken : (coder : Coder) (c y : Context) (e : SoloEvent) → IsOrdered c → IsTidy c → (solo_step coder (Some c) e).slot ≡ Some y → drops c e (solo_step coder (Some c) e).told ≡ false → IsTakenInOrder c e (solo_step coder (Some c) e).told y
 unfolding OrderSlot
 step_taken coder c y e s t next d =
     let told = (solo_step coder (Some c) e).told in
@@ -259,18 +268,16 @@ one_and_rest h hs d b n ns m p q =
 same_slot : (c d : Context) → Some c ≡ Some d → c ≡ d
 same_slot c d e = cc
 
--- a slot that is closed stays so unless it is opened, and only a drop closes it
-goes_open : (coder : Coder) (c : Context) (e : SoloEvent) (slot : Slot) → OrderSlot c e (solo_step coder (Some c) e).told slot → drops e (solo_step coder (Some c) e).told ≡ false → (y : Context) × (slot ≡ Some y)
-unfolding OrderSlot
-goes_open coder c e None o d = absurd (false≢true (sym d ∙ o))
-goes_open coder c e (Some y) o d = (y, refl)
+goes_open : (coder : Coder) (slot : Slot) (es : List SoloEvent) → DropsNothing coder slot es → (y : Context) × (slot ≡ Some y)
+goes_open coder None es n = absurd n
+goes_open coder (Some y) es n = (y, refl)
 
 handed_from : (coder : Coder) (c d : Context) (es : List SoloEvent) → IsOrdered c → IsTidy c → solo_slot coder (Some c) es ≡ Some d → DropsNothing coder (Some c) es → handed_out (solo_run coder (Some c) es) ++ bytes_of d.cap.done ≡ bytes_of c.cap.done ++ bytes_of (done_in coder (Some c) es)
 handed_from coder c d [] s t at n =
     let same = same_slot c d at in ap (λ x. bytes_of x.cap.done) (sym same) ∙ sym (append-nil (bytes_of c.cap.done))
 handed_from coder c d (e ∷ es) s t at n =
     let r = solo_step coder (Some c) e in
-    let open_slot = goes_open coder c e r.slot (step_order coder c t (step_of coder c e s)) n.0 in
+    let open_slot = goes_open coder r.slot es n.1 in
     let y = open_slot.0 in
     let next = open_slot.1 in
     let ordered : IsOrdered y = subst IsOrderedSlot next (step_sound coder (Some c) e s) in
@@ -333,7 +340,7 @@ retired_from coder seg c (e ∷ es) k =
     let rest : (segment_after coder next slot es).retired ≡ next.retired ++ done_in coder slot es = subst (λ z. (segment_after coder next z es).retired ≡ next.retired ++ done_in coder z es) (sym y.1) (retired_from coder next y.0 es (subst (λ z. KeepsSegment coder z es) y.1 k.1)) in
     rest ∙ (ap (λ l. l ++ done_in coder slot es) (step_retired coder seg c e es k.1 k.0) ∙ append_assoc seg.retired (gone_to_done (Some c) slot) (done_in coder slot es))
 
-segment_append : (coder : Coder) (seg : Segment) (s : Slot) (es fs : List SoloEvent) → segment_after coder seg s (es ++ fs) ≡ segment_after coder (segment_after coder seg s es) (solo_slot coder s es) fs
+pub segment_append : (coder : Coder) (seg : Segment) (s : Slot) (es fs : List SoloEvent) → segment_after coder seg s (es ++ fs) ≡ segment_after coder (segment_after coder seg s es) (solo_slot coder s es) fs
 segment_append coder seg s [] fs = refl
 segment_append coder seg s (e ∷ es) fs =
     segment_append coder (segment_step coder seg s e) (solo_step coder s e).slot es fs

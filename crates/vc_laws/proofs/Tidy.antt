@@ -114,7 +114,7 @@ same_out_format Enc formats want = refl
 same_out_format Dec formats want = refl
 
 -- a job in a queue with no buffers
-no_job : (q : QueueState) → buffer_count q ≤ 0 → (bs : List Buffer) → q.job ≡ bs → bs ≡ []
+pub no_job : (q : QueueState) → buffer_count q ≤ 0 → (bs : List Buffer) → q.job ≡ bs → bs ≡ []
 no_job q n [] e = refl
 no_job q n (b ∷ bs) e = let l = ap length e in absurd (omega arith)
 

@@ -73,7 +73,7 @@ pub record AreWhole (bytes : List ℕ) (sources ws held : List Buffer) (next : �
 
 -- Lists
 
-all_end : (t : Buffer → Bool) (bs : List Buffer) (x : Buffer) → list_all t bs ≡ true → t x ≡ true → list_all t (bs ++ x ∷ []) ≡ true
+pub all_end : (t : Buffer → Bool) (bs : List Buffer) (x : Buffer) → list_all t bs ≡ true → t x ≡ true → list_all t (bs ++ x ∷ []) ≡ true
 all_end t bs x h e =
     list_all-append t bs (x ∷ []) ∙ (ap (λ b. b && (t x && true)) h ∙ ap (λ b. b && true) e)
 
@@ -126,7 +126,7 @@ unread_as_queued (b ∷ bs) h =
 
 -- Ordinals
 
-counts_end : (bs : List Buffer) (x : Buffer) (first next : ℕ) → CountsUp bs first next → x.ordinal ≡ next → CountsUp (bs ++ x ∷ []) first (next + 1)
+pub counts_end : (bs : List Buffer) (x : Buffer) (first next : ℕ) → CountsUp bs first next → x.ordinal ≡ next → CountsUp (bs ++ x ∷ []) first (next + 1)
 counts_end [] x first next u o = (o ∙ sym u, ap (λ n. n + 1) u)
 counts_end (b ∷ bs) x first next u o = (u.0, counts_end bs x (first + 1) next u.1 o)
 
@@ -134,7 +134,7 @@ counts_up : (bs : List Buffer) (first next : ℕ) → CountsUp bs first next →
 counts_up [] first next u = omega (arith, u)
 counts_up (b ∷ bs) first next u = let h = counts_up bs (first + 1) next u.1 in omega arith
 
-counts_due : (bs : List Buffer) (first next : ℕ) → CountsUp bs first next → list_all (is_due (Some next)) bs ≡ true
+pub counts_due : (bs : List Buffer) (first next : ℕ) → CountsUp bs first next → list_all (is_due (Some next)) bs ≡ true
 counts_due [] first next u = refl
 counts_due (b ∷ bs) first next u =
     let h = counts_up bs (first + 1) next u.1 in
@@ -143,7 +143,7 @@ counts_due (b ∷ bs) first next u =
 
 -- Marks
 
-all_due_none : (bs : List Buffer) → list_all (is_due None) bs ≡ true
+pub all_due_none : (bs : List Buffer) → list_all (is_due None) bs ≡ true
 all_due_none [] = refl
 all_due_none (b ∷ bs) = all_due_none bs
 
@@ -295,12 +295,12 @@ afresh {ws = ws} {mark = mark} first u b h k =
 
 -- The end
 
-filter_due : (bs : List Buffer) (m : ℕ) → list_all (is_due (Some m)) bs ≡ true → before_mark m bs ≡ bs
+pub filter_due : (bs : List Buffer) (m : ℕ) → list_all (is_due (Some m)) bs ≡ true → before_mark m bs ≡ bs
 filter_due [] m h = refl
 filter_due (b ∷ bs) m h =
     ap (λ t. cond t (b ∷ before_mark m bs) (before_mark m bs)) (and_left (nat_lt b.ordinal m) (list_all (is_due (Some m)) bs) h) ∙ ap (λ l. b ∷ l) (filter_due bs m (and_right (nat_lt b.ordinal m) (list_all (is_due (Some m)) bs) h))
 
-or_left : (a b : Bool) → (a || b) ≡ false → (a ≡ false) × (b ≡ false)
+pub or_left : (a b : Bool) → (a || b) ≡ false → (a ≡ false) × (b ≡ false)
 or_left true b e = absurd (false≢true (sym e))
 or_left false b e = (refl, e)
 
@@ -376,7 +376,7 @@ off_unread : (held ready done : List Buffer) → list_all is_unread held ≡ tru
 off_unread held ready done h =
     all_both is_unread (held ++ map held_again ready) (map held_again done) (all_both is_unread held (map held_again ready) h (again_unread ready)) (again_unread done)
 
-no_run_job : (c : Context) → IsOrdered c → c.running ≡ None → c.out.job ≡ []
+pub no_run_job : (c : Context) → IsOrdered c → c.running ≡ None → c.out.job ≡ []
 no_run_job c s n = split c.running s.firm.has_buffers n
   where
     split : (o : Option Running) → Rattle.vc_model.specs.Sound.HasItsBuffers c o → o ≡ None → c.out.job ≡ []
@@ -449,7 +449,7 @@ decoder_runs coder c r k t h = by_codec c.codec refl (subst (λ q. HasCodec q c.
     by_codec (decoder state) e q = (_, by_sort (job_data c r) state r.sort c.geometry e (t.sort ∙ ap (λ n. sort_of n c.geometry) k))
 
 -- the waiting buffers of a context with a job
-waiting_is : (c : Context) (b : Buffer) → c.out.job ≡ b ∷ [] → c.out.job ++ c.out.ready ≡ b ∷ c.out.ready
+pub waiting_is : (c : Context) (b : Buffer) → c.out.job ≡ b ∷ [] → c.out.job ++ c.out.ready ≡ b ∷ c.out.ready
 waiting_is c b e = ap (λ l. l ++ c.out.ready) e
 
 -- the bytes that the run consumed, after it
@@ -519,7 +519,7 @@ finish_whole coder seg c r job x y word s t k w ends u =
     subst (λ z. IsWhole z y) (sym (finished_segment coder seg c y r word job.running)) (subst (λ l. AreWhole l ((after_run seg r j (run_result coder j)).sources ++ []) (y.out.job ++ y.out.ready) y.out.held y.out.next_ordinal y.mark) (sym same) (subst (λ l. AreWhole (ConsumedBy seg b d.0) l (y.out.job ++ y.out.ready) y.out.held y.out.next_ordinal y.mark) (sym kept) w2))
 
 -- an engine fault begins a segment with the sources behind that of the run
-abbrev IsOutAfterFault : Context → QueueState → Type 0
+abbrev pub IsOutAfterFault : Context → QueueState → Type 0
 IsOutAfterFault c q = (q.job ≡ []) × (q.ready ≡ c.out.ready) × (q.held ≡ c.out.held) × (q.next_ordinal ≡ c.out.next_ordinal)
 
 fault_puts : (c : Context) (j : JobData) (b : Buffer) (result : Option RunResult) (up : Bool) (flags cursor : ℕ) (codec : CodecState) (used : ℕ) (bytes : List ℕ) (dest_flags : ℕ) (stamp : Stamp) → result ≡ None → Puts c j b result up flags cursor codec used bytes dest_flags stamp → IsOutAfterFault c (moved_out c.out b flags cursor up)
@@ -529,7 +529,7 @@ fault_puts c j b result up flags cursor codec used bytes dest_flags stamp e (put
 fault_puts c j b result up flags cursor codec used bytes dest_flags stamp e (puts_picture step r geometry key planes g k) = absurd (cc)
 fault_puts c j b result up flags cursor codec used bytes dest_flags stamp e (puts_damage step r g k) = absurd (cc)
 
-faulted_out : (c : Context) (j : JobData) (b : Buffer) {result : Option RunResult} (x : Context) → result ≡ None → Ends c j b result x → IsOutAfterFault c x.out
+pub faulted_out : (c : Context) (j : JobData) (b : Buffer) {result : Option RunResult} (x : Context) → result ≡ None → Ends c j b result x → IsOutAfterFault c x.out
 faulted_out c j b {result = result} x e (alone up flags cursor codec used bytes dest_flags stamp p n) =
     fault_puts c j b result up flags cursor codec used bytes dest_flags stamp e p
 faulted_out c j b {result = result} x e (kept up flags cursor codec used bytes dest_flags stamp d p n) =
@@ -538,7 +538,7 @@ faulted_out c j b {result = result} x e (ended flags cursor codec used bytes des
 faulted_out c j b x e (halts step r geometry k phase events g q back p) = absurd (cc)
 faulted_out c j b x e (spends step k g back) = absurd (cc)
 
-settled_out : (c x y : Context) → Settles x y → IsOutAfterFault c x.out → IsOutAfterFault c y.out
+pub settled_out : (c x y : Context) → Settles x y → IsOutAfterFault c x.out → IsOutAfterFault c y.out
 settled_out c x y still h = h
 settled_out c x y (owes p r) h = h
 settled_out c x y (gives cause z rest events r p) h = h
@@ -686,19 +686,19 @@ step_honest coder c (claims b rest k r n o j p d q) = other_honest c _ _ _ refl
 step_honest coder c (finishes r x y job ends s w) = other_honest c _ _ _ refl
 step_honest coder c (faults r x y job ends s) = other_honest c _ _ _ refl
 
-end_drained : (p : PhaseState) → is_last_by_drain p ≡ true → is_at_end p ≡ true
+pub end_drained : (p : PhaseState) → is_last_by_drain p ≡ true → is_at_end p ≡ true
 end_drained run e = absurd (false≢true e)
 end_drained (owe cause) e = absurd (false≢true e)
 end_drained (last cause) e = e
 end_drained (stopped cause) e = absurd (false≢true e)
 
-drain_stops : (p : PhaseState) → is_last_by_drain p ≡ true → is_run p ≡ false
+pub drain_stops : (p : PhaseState) → is_last_by_drain p ≡ true → is_run p ≡ false
 drain_stops run e = absurd (false≢true e)
 drain_stops (owe cause) e = refl
 drain_stops (last cause) e = refl
 drain_stops (stopped cause) e = refl
 
-drained_before : (ready : List Buffer) (mark : Option ℕ) (m : ℕ) → mark ≡ Some m → is_drained ready mark ≡ true → has_before ready m ≡ false
+pub drained_before : (ready : List Buffer) (mark : Option ℕ) (m : ℕ) → mark ≡ Some m → is_drained ready mark ≡ true → has_before ready m ≡ false
 drained_before ready mark m e d = not_true (has_before ready m) (ap (is_drained ready) (sym e) ∙ d)
 
 after_kind : (c y : Context) → KindSlot c (Some y) → c.kind ≡ Dec → y.kind ≡ Dec

@@ -1,8 +1,9 @@
 -- Drains: from the STOP that sets the mark to the LAST buffer that is dequeued; and changes of the resolution ("Drain" and
 -- "Dynamic Resolution Change" of the stateful decoder, "Drain" of the stateful encoder).
-use Rattle.std.specs.Prelude.{ℕ, ◌≡◌, ◌⊎◌, ◌+◌, ◌==◌, Bool, true, false, not, ◌&&◌, nat_lt, codes, is_none, is_some, Option, Some, None, List, [], ◌∷◌, ◌++◌}
+use Rattle.std.specs.Prelude.{ℕ, ◌≡◌, ◌⊎◌, ◌+◌, ◌==◌, Bool, true, false, not, ◌&&◌, ◌||◌, if◌then◌else◌, nat_lt, codes, is_none, is_some, Option, Some, None, List, [], ◌∷◌, ◌++◌}
 use Rattle.std.specs.List.{filter, flat_map}
-use Rattle.vc_base.specs.declared.Kind.TheVariants.{Dec}
+use Rattle.vc_base.specs.declared.Side.TheVariants.{Out}
+use Rattle.vc_base.specs.declared.Kind.TheVariants.{Enc, Dec}
 use Rattle.vc_base.specs.declared.Call.{Call}
 use Rattle.vc_base.specs.declared.Call.TheVariants.{Close, StreamOff, DecCmd, EncCmd}
 use Rattle.vc_base.specs.declared.Reply.{Reply}
@@ -17,7 +18,7 @@ pub use Rattle.vc_model.specs.Phases.{is_owed, is_over}
 use Rattle.vc_model.specs.Solo.{SoloEvent, Called, Finishes, SoloReply, Answered, Finished, solo_step, solo_run, solo_slot}
 use Rattle.vc_model.specs.Drains.{AtEveryStep, is_last_by_drain, gives_last, takes_capture, done_now}
 use Rattle.vc_model.specs.LastBuffers.{gives_change}
-use Rattle.vc_laws.specs.Segments.{Segment, segment_of, whats}
+use Rattle.vc_laws.specs.Segments.{EncodedPicture, Segment, resets, segment_of, whats}
 use Rattle.vc_laws.specs.Following.{results_of, is_no_change, in_buffers, by_runs, OneForOne}
 
 -- Beginning and end
@@ -124,6 +125,46 @@ DrainsAreWhole =
 abbrev pub DrainsGiveAll : Type 0
 DrainsGiveAll =
     (events : List SoloEvent) (e : SoloEvent) (before after : Context) (r : Running) → solo_slot the_coder None events ≡ Some before → (solo_step the_coder (Some before) e).slot ≡ Some after → before.kind ≡ Dec → gives_last before after ≡ true → let seg = segment_of the_coder (events ++ e ∷ []) in seg.first ≡ Some r → whats seg ≡ results_of seg r
+
+-- Pictures
+
+-- the user takes OUTPUT buffers back
+abbrev pub call_takes_back : Call → Reply → Bool
+call_takes_back (StreamOff Out) Done = true
+call_takes_back request reply = false
+
+abbrev pub takes_back : SoloEvent → SoloReply → Bool
+takes_back (Called request bytes found) (Answered reply handed) = call_takes_back request reply
+takes_back e told = false
+
+-- whether the user took OUTPUT buffers back by a StreamOff since the segment began
+abbrev pub took_back_by : Slot → Slot → Bool → SoloEvent → SoloReply → Bool
+took_back_by (Some before) (Some after) took e told = if resets before e told then false else took || takes_back e told
+took_back_by before after took e told = false
+
+abbrev pub took_back_from : Coder → Bool → Slot → List SoloEvent → Bool
+took_back_from coder took s [] = took
+took_back_from coder took s (e ∷ es) =
+    let r = solo_step coder s e in took_back_from coder (took_back_by s r.slot took e r.told) r.slot es
+
+abbrev pub took_back : Coder → List SoloEvent → Bool
+took_back coder events = took_back_from coder false None events
+
+-- the pictures are those of the buffers
+abbrev pub ArePicturesOf : List EncodedPicture → List Buffer → Type 0
+ArePicturesOf [] [] = Unit {0}
+ArePicturesOf (p ∷ ps) (b ∷ bs) = (p.bytes ≡ b.bytes) × (p.stamp ≡ b.stamp) × ArePicturesOf ps bs
+ArePicturesOf _ _ = ⊥
+
+-- An encoder's runs consume its sources in order, each once: those that do not wait, where the user took none back.
+abbrev pub EncodesInOrder : Type 0
+EncodesInOrder =
+    (coder : Coder) (events : List SoloEvent) (c : Context) → solo_slot coder None events ≡ Some c → c.kind ≡ Enc → took_back coder events ≡ false → let seg = segment_of coder events in (gone : List Buffer) × (seg.sources ≡ gone ++ (c.out.job ++ c.out.ready)) × ArePicturesOf seg.pictures gone
+
+-- Where an encoder gives the LAST buffer of a drain, its runs consumed the sources before the mark, each once and in order.
+abbrev pub DrainsEncodeAll : Type 0
+DrainsEncodeAll =
+    (coder : Coder) (events : List SoloEvent) (e : SoloEvent) (before after : Context) (mark : ℕ) → solo_slot coder None events ≡ Some before → (solo_step coder (Some before) e).slot ≡ Some after → before.kind ≡ Enc → gives_last before after ≡ true → after.mark ≡ Some mark → took_back coder (events ++ e ∷ []) ≡ false → let seg = segment_of coder (events ++ e ∷ []) in ArePicturesOf seg.pictures (before_mark mark seg.sources)
 
 -- Changes of the resolution
 

@@ -3,7 +3,7 @@ use Rattle.std.specs.Prelude.{ℕ, ◌≡◌, ◌+◌, true, false, replicate, t
 use Rattle.vc_base.specs.declared.Side.TheVariants.{Out, Cap}
 use Rattle.vc_base.specs.declared.Kind.TheVariants.{Enc, Dec}
 use Rattle.vc_base.specs.declared.Call.{Call}
-use Rattle.vc_base.specs.declared.Call.TheVariants.{Open, SetFmt, ReqBufs, QBuf, DqBuf, StreamOn, StreamOff, DecCmd}
+use Rattle.vc_base.specs.declared.Call.TheVariants.{Open, SetFmt, ReqBufs, QBuf, DqBuf, StreamOn, StreamOff, DecCmd, EncCmd}
 use Rattle.vc_base.specs.Buffers.{Buffer}
 use Rattle.vc_defs.specs.Named.{frame_f, frame_h, frame_f4, grey_bytes, grey_planes, small, wide}
 use Rattle.vc_defs.specs.Decoder.{FrameResult, ResultKind, Picture, Damaged, Changed}
@@ -13,7 +13,8 @@ use Rattle.vc_model.specs.Rows.{stamp}
 use Rattle.vc_model.specs.CoderRows.{listed_coder, gives_change, gives_picture, gives_damage, grey_format}
 use Rattle.vc_model.specs.Solo.{SoloEvent, Called, Claims, Finishes}
 use Rattle.vc_laws.specs.Segments.{SegmentResult, EncodedPicture, Segment, segment_of, whats}
-use Rattle.vc_laws.specs.Drains.{bytes_before}
+use Rattle.vc_laws.specs.Drains.{bytes_before, took_back}
+use Rattle.vc_laws.specs.Taking.{bytes_of}
 
 -- a call with memory and without bytes, and a buffer with these bytes queued on OUTPUT
 abbrev pub asks : Call → SoloEvent
@@ -126,6 +127,21 @@ encoder_segment =
 
 abbrev pub EncoderFrames : Type 0
 EncoderFrames = map (λ (p : EncodedPicture). p.frame) encoder_segment.pictures ≡ frame_f4 ∷ []
+
+-- the same encoder, and a drain of its one picture
+abbrev pub encoder_drain : List SoloEvent
+encoder_drain =
+    asks (Open Enc) ∷ asks (SetFmt Out (grey_format 16 16 0)) ∷ asks (ReqBufs Out 1) ∷ asks (ReqBufs Cap 1) ∷ queues 0 256 5 (grey_bytes 256) ∷ queues_empty 0 ∷ asks (StreamOn Out) ∷ asks (StreamOn Cap) ∷ asks (EncCmd 1) ∷ [] ++ runs
+
+-- the frame has LAST
+abbrev pub EncoderRetired : Type 0
+EncoderRetired =
+    let retired = (segment_of the_coder encoder_drain).retired in
+    (map (λ (b : Buffer). b.flags) retired ≡ 1048584 ∷ []) × (bytes_of retired ≡ frame_f4)
+
+-- the user took nothing back, and then takes back all that waits
+abbrev pub EncoderTakesBack : Type 0
+EncoderTakesBack = (took_back the_coder encoder_drain ≡ false) × (took_back the_coder (encoder_drain ++ asks (StreamOff Out) ∷ []) ≡ true)
 
 -- A coder that gives the results of a list
 

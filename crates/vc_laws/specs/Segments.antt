@@ -99,9 +99,9 @@ with_result results from fourcc stamp (Some r) =
     results ++ record { what = moved_result from r; stamp = stamp; fourcc = fourcc } ∷ []
 
 -- a run that gave a change alone: a result of its frame may be left to be given
-abbrev pub is_change : Option FrameResult → Bool
-is_change None = false
-is_change (Some r) = is_change_result r.kind
+abbrev pub gave_change : Option FrameResult → Bool
+gave_change None = false
+gave_change (Some r) = is_change_result r.kind
 
 -- the number of bytes that the decoder kept
 abbrev pub tail_length : CodecState → ℕ
@@ -117,7 +117,7 @@ after_decode seg r j step =
       bytes = seg.bytes ++ moved;
       stamps = seg.stamps ++ replicate (length moved) j.source.stamp;
       results = with_result seg.results (length seg.bytes - tail_length j.codec) j.format.fourcc step.stamp step.given;
-      given = if is_change step.given then false else true;
+      given = if gave_change step.given then false else true;
     }
 
 abbrev pub after_encode : Segment → Running → JobData → EncodedFrame → Segment

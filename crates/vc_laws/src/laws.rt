@@ -2,8 +2,8 @@
 //! Resolution Change" of the memory-to-memory stateful video decoder interface, and "Drain" of the stateful video encoder
 //! interface, in the Linux userspace API documentation.
 
-ghost use Rattle.vc_laws.specs.Drains.{AbortedByOff, AllWentBack, ChangesStop, DrainsAreWhole, DrainsBeginAtStop, DrainsGiveAll, FrameAfterChange, MarksStay, NothingAfterLast, ResultsBeforeChange, SameDrainsSameResults, StopsByChange};
-ghost use Rattle.vc_laws.specs.Taking.{DoneIsRetired, FramesAreHandedOut, HandedInOrder, PicturesAreHandedOut, TakenInOrder};
+ghost use Rattle.vc_laws.specs.Drains.{AbortedByOff, AllWentBack, ChangesStop, DrainsAreWhole, DrainsBeginAtStop, DrainsEncodeAll, DrainsGiveAll, EncodesInOrder, FrameAfterChange, MarksStay, NothingAfterLast, ResultsBeforeChange, SameDrainsSameResults, StopsByChange};
+ghost use Rattle.vc_laws.specs.Taking.{AllIsHandedOut, DoneIsRetired, FramesAreHandedOut, HandedInOrder, PicturesAreHandedOut, TakenInOrder};
 ghost use Rattle.vc_laws.specs.Following.{EncoderFollows, Follows, RetiredAreFrames, RetiredAreResults, SegmentsBegin};
 
 /// A drain begins at a STOP alone, and its mark is the number of OUTPUT buffers queued before it.
@@ -44,6 +44,13 @@ pub fn changes_stop()
 /// Where a decoder gives the LAST buffer of a drain, its runs consumed the sources before the mark, each whole and in order.
 pub fn drains_are_whole()
     ensures { DrainsAreWhole }
+{}
+
+/// An encoder's runs consume its sources in order, each once, and where it gives the LAST buffer of a drain all those before
+/// the mark, unless the user took sources back.
+pub fn drains_encode_all()
+    ensures order { EncodesInOrder }
+    ensures drains { DrainsEncodeAll }
 {}
 
 /// The frames of an encoder's segment are those of the sequential encoder for the pictures that its runs consumed.
@@ -102,4 +109,10 @@ pub fn taken_in_order()
 pub fn pictures_are_handed_out()
     ensures decoders { PicturesAreHandedOut }
     ensures encoders { FramesAreHandedOut }
+{}
+
+/// Over a run of one segment that drops nothing and leaves nothing on done, the client gets all pictures of the segment, or the
+/// sequential encoder's frames for the pictures that were consumed, in order.
+pub fn all_is_handed_out()
+    ensures { AllIsHandedOut }
 {}

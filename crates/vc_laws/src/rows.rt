@@ -1,6 +1,6 @@
 //! Worked rows: what the definitions say of the segments of short runs.
 
-ghost use Rattle.vc_laws.specs.SegmentRows.{ChangeRetired, ChangeWaits, ChangedResults, CutBytes, CutResults, CutStamps, EncoderFrames, ListedBytes, ListedResults, ListedRetired, ListedSources, ListedStamps, SoughtBytes, TwoBytes, TwoResults, TwoRetired, TwoRetiredBytes, TwoStamps};
+ghost use Rattle.vc_laws.specs.SegmentRows.{ChangeRetired, ChangeWaits, ChangedResults, CutBytes, CutResults, CutStamps, EncoderFrames, EncoderRetired, EncoderTakesBack, ListedBytes, ListedResults, ListedRetired, ListedSources, ListedStamps, SoughtBytes, TwoBytes, TwoResults, TwoRetired, TwoRetiredBytes, TwoStamps};
 
 /// The definitions compute these rows with the codec itself: two frames in one buffer, a frame in 48 pieces, a stream that
 /// changes, a restart of OUTPUT, and an encoder.
@@ -18,6 +18,8 @@ pub fn segment_rows()
     ensures changed_results { ChangedResults }
     ensures sought_bytes { SoughtBytes }
     ensures encoder_frames { EncoderFrames }
+    ensures encoder_retired { EncoderRetired }
+    ensures encoder_takes_back { EncoderTakesBack }
 {}
 
 /// The definitions compute these rows with a coder that gives the results of a list: a drain of two buffers.

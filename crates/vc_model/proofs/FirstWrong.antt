@@ -1,14 +1,14 @@
 -- The replay of an audit finds the first wrong line of a report.
-use Rattle.std.proofs.Common.{ℕ, zero, suc, ◌≡◌, ◌≤◌, ◌+◌, ◌-◌, Bool, true, false, cond, Some, List, [], ◌∷◌, ◌++◌, length, drop, refl, sym, ap, ◌∙◌, subst, arith}
+use Rattle.std.proofs.Common.{None, ◌<◌, Option, ℕ, zero, suc, ◌≡◌, ◌≤◌, ◌+◌, ◌-◌, nat_lt, Bool, true, false, cond, Some, List, [], ◌∷◌, ◌++◌, length, drop, refl, sym, ap, ◌∙◌, subst, arith}
 use Rattle.std.specs.Prelude.{bytes_eq}
 use Rattle.std.proofs.Math.Seq.{drop-append_seam}
 use Rattle.std.proofs.lemmas.List.{append_cancel_left}
-use Rattle.std.proofs.lemmas.Bool.{false≢true}
+use Rattle.std.proofs.lemmas.Bool.{false≢true, ltb-true, ltb-false}
 use Rattle.std.proofs.lemmas.Slice.Eq.{bytes_eq-Decides}
 use Rattle.vc_model.specs.Coder.{Coder}
 use Rattle.vc_model.specs.Devices.{DeviceState, new_device, device_after}
 use Rattle.vc_model.specs.Script.{ReplyText, Asked, most_slots, AreAsked, line_events, line_text, lines_printed, first_lines, printed_by, split_lines, IsLineText, PrintsLines}
-use Rattle.vc_model.specs.Audit.{same_lines, wrong_from, ReplayFindsFirst}
+use Rattle.vc_model.specs.Audit.{IsFirstWrong, same_lines, wrong_from, first_wrong_line, ReplayFindsFirst}
 use Rattle.vc_model.proofs.FirstLines.{first_first, first_swap, first_after, agree_first, agree_whole, agree_few}
 use Rattle.vc_model.proofs.Printing.{Comes, comes_after}
 use Rattle.vc_model.proofs.LineByLine.{line_cut, lines_are_printed, right_from, found_from}
@@ -179,8 +179,8 @@ first_from t coder n d (asked ∷ rest) report at line f a p =
     let text = printed_by d asked report in
     first_split t coder n d asked rest report at line f a (first_from t coder n (behind t coder d asked text) rest (drop (length text) report) (at + lines_printed d asked) line (fits_behind t coder n d asked text f) a.1) (bytes_eq text (wanted_for t coder d asked text)) refl p
 
-pub replay_finds_first : ReplayFindsFirst
-replay_finds_first t coder n lines report line l few a p =
+is_first_wrong : (t : ReplyText) (coder : Coder) (n : ℕ) (lines : List Asked) (report : List ℕ) (line : ℕ) → IsLineText t → n ≤ most_slots → AreAsked n lines → first_wrong_line t coder n lines report ≡ Some line → IsFirstWrong t coder n lines report line
+is_first_wrong t coder n lines report line l few a p =
     let d = new_device n in
     let f : Fits t coder n d = record { text = l; few = few; comes = record { past = []; same = refl } } in
     let i = first_from t coder n d lines report 1 line f a p in
@@ -189,4 +189,29 @@ replay_finds_first t coder n lines report line l few a p =
     record {
       wrong = λ b. i.wrong (record { right = b.right; is_right = lines_are_printed t coder n lines b.right l few a b.is_right; begins = ap (first_lines b.right) (sym next) ∙ (b.begins ∙ ap (first_lines report) next) });
       least = λ m h. let g = i.least m (omega arith) in record { right = g.right; is_right = right_from t coder d lines g.right 1 (found_from t coder d lines g.right 1 g.is_right); begins = g.begins };
+    }
+
+-- there is one first wrong line, and none of a right report
+only_one : {A : Type 0} → (t : ReplyText) (coder : Coder) (n : ℕ) (lines : List Asked) (report : List ℕ) (line other : ℕ) → IsFirstWrong t coder n lines report line → IsFirstWrong t coder n lines report other → line < other → A
+only_one t coder n lines report line other f g h = absurd (f.wrong (g.least line h))
+
+same_line : (t : ReplyText) (coder : Coder) (n : ℕ) (lines : List Asked) (report : List ℕ) (line other : ℕ) → IsFirstWrong t coder n lines report line → IsFirstWrong t coder n lines report other → (b d : Bool) → nat_lt line other ≡ b → nat_lt other line ≡ d → other ≡ line
+same_line t coder n lines report line other f g true d e k =
+    only_one t coder n lines report line other f g (ltb-true line other e)
+same_line t coder n lines report line other f g false true e k =
+    only_one t coder n lines report other line g f (ltb-true other line k)
+same_line t coder n lines report line other f g false false e k =
+    let x = ltb-false line other e in let y = ltb-false other line k in omega arith
+
+found_line : (t : ReplyText) (coder : Coder) (n : ℕ) (lines : List Asked) (report : List ℕ) (line : ℕ) → IsLineText t → n ≤ most_slots → AreAsked n lines → IsFirstWrong t coder n lines report line → (o : Option ℕ) → first_wrong_line t coder n lines report ≡ o → first_wrong_line t coder n lines report ≡ Some line
+found_line t coder n lines report line l few a f None e =
+    absurd (f.wrong (record { right = report; is_right = right_from t coder (new_device n) lines report 1 e; begins = refl }))
+found_line t coder n lines report line l few a f (Some other) e =
+    e ∙ ap (λ k. Some k) (same_line t coder n lines report line other f (is_first_wrong t coder n lines report other l few a e) (nat_lt line other) (nat_lt other line) refl refl)
+
+pub replay_finds_first : ReplayFindsFirst
+replay_finds_first t coder n lines report line l few a =
+    record {
+      first = λ p. is_first_wrong t coder n lines report line l few a p;
+      found = λ f. found_line t coder n lines report line l few a f (first_wrong_line t coder n lines report) refl;
     }

@@ -81,7 +81,11 @@ abbrev pub ReplayFindsRight : Type 0
 ReplayFindsRight =
     (t : ReplyText) (coder : Coder) (n : ℕ) (lines : List Asked) (report : List ℕ) → FindsRight t coder n lines report
 
--- Where the replay finds a line, it is the first wrong one.
+-- Where the replay finds a line, it is the first wrong one, and where a report has a first wrong line, the replay finds it.
+pub record FindsFirst (t : ReplyText) (coder : Coder) (n : ℕ) (lines : List Asked) (report : List ℕ) (line : ℕ) : Type 0 where
+  pub first : first_wrong_line t coder n lines report ≡ Some line → IsFirstWrong t coder n lines report line
+  pub found : IsFirstWrong t coder n lines report line → first_wrong_line t coder n lines report ≡ Some line
+
 abbrev pub ReplayFindsFirst : Type 0
 ReplayFindsFirst =
-    (t : ReplyText) (coder : Coder) (n : ℕ) (lines : List Asked) (report : List ℕ) (line : ℕ) → IsLineText t → n ≤ most_slots → AreAsked n lines → first_wrong_line t coder n lines report ≡ Some line → IsFirstWrong t coder n lines report line
+    (t : ReplyText) (coder : Coder) (n : ℕ) (lines : List Asked) (report : List ℕ) (line : ℕ) → IsLineText t → n ≤ most_slots → AreAsked n lines → FindsFirst t coder n lines report line

@@ -1,6 +1,6 @@
 -- The messages of the wire: how bytes are cut into messages, and what a message asks for (docs/FORMAT.md, "The wire"). All
 -- numbers are big-endian.
-use Rattle.std.specs.Prelude.{ℕ, zero, suc, ◌+◌, ◌-◌, Bool, true, false, not, ◌&&◌, if◌then◌else◌, ◌==◌, nat_lt, nat_le, length, take, drop, Option, Some, None, option_and_then, List, [], ◌∷◌, ◌++◌}
+use Rattle.std.specs.Prelude.{ℕ, zero, suc, ◌≡◌, ◌+◌, ◌-◌, Bool, true, false, not, ◌&&◌, if◌then◌else◌, ◌==◌, nat_lt, nat_le, length, take, drop, Option, Some, None, option_and_then, List, [], ◌∷◌, ◌++◌}
 use Rattle.std.specs.Int.{to_be_bytes, from_be_bytes, w32, w64}
 use Rattle.std.specs.List.{list_all, find}
 use Rattle.vc_base.specs.declared.Side.{Side}
@@ -72,6 +72,12 @@ messages_within (suc most) bytes =
 -- a message takes five bytes at least
 abbrev pub messages : List ℕ → Messages
 messages bytes = messages_within (length bytes) bytes
+
+-- The messages of bytes that go on are those that were there, and then those of the rest and what comes behind it: how the
+-- bytes are cut into pieces doesn't matter.
+abbrev pub MessagesContinue : Type 0
+MessagesContinue =
+    (bytes further : List ℕ) → let first = messages bytes in let later = messages (first.rest ++ further) in messages (bytes ++ further) ≡ record { bodies = first.bodies ++ later.bodies; rest = later.rest }
 
 -- What a piece of the bytes brings: more is needed, a message ended, or its length isn't in range.
 pub data Framing : Type 0 where

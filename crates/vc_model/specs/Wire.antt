@@ -153,3 +153,12 @@ replies_of k entries = flat_map (λ x. reply_for k x.event x.reply) entries
 abbrev pub SlotsAreRepliedTo : Type 0
 SlotsAreRepliedTo =
     (coder : Coder) (n k : ℕ) (input output : List ℕ) → let events = events_of_wire coder n input output in replies_of k (device_run coder (new_device n) events) ≡ slot_replies k (solo_run coder None (projection coder (new_device n) events k))
+
+-- the events of a slot in an input
+abbrev pub own_events_of_wire : Coder → ℕ → List ℕ → List ℕ → ℕ → List SoloEvent
+own_events_of_wire coder n input output k = projection coder (new_device n) (events_of_wire coder n input output) k
+
+-- Two inputs in which the same happens to a slot give the same replies of it.
+abbrev pub SameEventsSameReplies : Type 0
+SameEventsSameReplies =
+    (coder : Coder) (n m k : ℕ) (input output other replied : List ℕ) → own_events_of_wire coder n input output k ≡ own_events_of_wire coder m other replied k → replies_of k (device_run coder (new_device n) (events_of_wire coder n input output)) ≡ replies_of k (device_run coder (new_device m) (events_of_wire coder m other replied))

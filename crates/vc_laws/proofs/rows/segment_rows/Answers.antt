@@ -68,3 +68,11 @@ returns-clause-sought_bytes c = refl
 pub returns-clause-encoder_frames : goal.returns-clause-encoder_frames
 unfolding segment_step solo_step answer context_answer closed_answer settle is_claimable after_claim run_result after_finish finish_word encode planes_of coded_blocks coded_as quantised canon_plane canon in_scan_order scan_place raw_of results given_in places look header_from header_bytes is_legal body_planes from_scan_order scan_number dequantised transformed coefficient walsh shift_at samples_of block_of decoded_blocks decoded_plane plane_of padded_plane unpadded
 returns-clause-encoder_frames c = refl
+
+pub returns-clause-encoder_retired : goal.returns-clause-encoder_retired
+unfolding segment_step solo_step answer context_answer closed_answer settle is_claimable after_claim run_result after_finish finish_word encode planes_of coded_blocks coded_as quantised canon_plane canon in_scan_order scan_place raw_of results given_in places look header_from header_bytes is_legal body_planes from_scan_order scan_number dequantised transformed coefficient walsh shift_at samples_of block_of decoded_blocks decoded_plane plane_of padded_plane unpadded
+returns-clause-encoder_retired c = (refl, refl)
+
+pub returns-clause-encoder_takes_back : goal.returns-clause-encoder_takes_back
+unfolding segment_step solo_step answer context_answer closed_answer settle is_claimable after_claim run_result after_finish finish_word encode planes_of coded_blocks coded_as quantised canon_plane canon in_scan_order scan_place raw_of results given_in places look header_from header_bytes is_legal body_planes from_scan_order scan_number dequantised transformed coefficient walsh shift_at samples_of block_of decoded_blocks decoded_plane plane_of padded_plane unpadded
+returns-clause-encoder_takes_back c = (refl, refl)

@@ -1,5 +1,8 @@
-use Rattle.vc_model.proofs.Wiring.{slots_are_replied_to}
+use Rattle.vc_model.proofs.Wiring.{slots_are_replied_to, same_events_same_replies}
 use Rattle.vc_model.proofs.laws.slots_are_replied_to.Goals as goal
 
-pub returns : goal.returns
-returns c = slots_are_replied_to
+pub returns-clause-own : goal.returns-clause-own
+returns-clause-own c = slots_are_replied_to
+
+pub returns-clause-same : goal.returns-clause-same
+returns-clause-same c = same_events_same_replies
