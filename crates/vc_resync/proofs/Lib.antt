@@ -1,0 +1,5 @@
+pub mod Matching
+pub mod Putting
+pub mod Taking
+pub mod Collecting
+pub mod Filling
