@@ -1,25 +1,23 @@
 -- What each step makes of the kept bytes.
-use Rattle.std.proofs.Common.{◌≡◌, ◌≢◌, ◌∙◌, sym, ap, refl, subst, ℕ, suc, zero, ◌+◌, ◌-◌, ◌<◌, ◌≤◌, inl, inr, List, [], ◌∷◌, ◌++◌, length, take, drop, arith, append_assoc, length-append, length-take, length-drop}
-use Rattle.std.specs.Prelude.{Bool, true, false, ◌&&◌, nat_eq, nat_le, nat_lt, cond}
-use Rattle.std.specs.declared.option.Option.{Option}
+use Rattle.std.proofs.Common.{◌≡◌, ◌≢◌, ◌∙◌, sym, ap, refl, subst, ℕ, ◌+◌, ◌-◌, ◌<◌, ◌≤◌, List, [], ◌++◌, length, take, drop, arith, length-append, length-take, length-drop}
+use Rattle.std.specs.Prelude.{Bool, true, false, ◌&&◌, nat_le, nat_lt, cond}
 use Rattle.std.specs.declared.option.Option.TheVariants.{Some, None}
 use Rattle.std.proofs.lemmas.Option.{none-some}
-use Rattle.std.proofs.lemmas.Bool.{cond-true, cond-false, cases_lt}
 use Rattle.std.proofs.lemmas.Bool.Decides.{nat_tests}
 use Rattle.std.proofs.lemmas.Slice.Eq.{bytes_eq-Decides}
-use Rattle.std.proofs.lemmas.List.{take_all, drop-drop, drop-take, take-append-drop, take-take, length-take-le, append-nil, drop-append-le, take-append-le, take_at}
+use Rattle.std.proofs.lemmas.List.{take_all, drop-drop, drop-take, take-append-drop, take-take, length-take-le, append-nil, take-append-le, take_at}
 use Rattle.vc_defs.specs.declared.Header.{Header}
 use Rattle.vc_defs.specs.Headers.{magic, most_bytes, is_legal_geometry, raw_suits, is_legal_number, is_whole_header, is_legal, header_from}
 use Rattle.vc_defs.specs.Places.{first_magic, start_of_magic}
 use Rattle.vc_defs.proofs.Looking.{magic_stays}
 use Rattle.vc_defs.proofs.InnerMagic.{magic_there}
 use Rattle.vc_defs.proofs.Splitting.{Heads, first_at_front}
-use Rattle.vc_resync.specs.declared.feeding.Found.TheVariants.{More, Head as HeadFound, Whole, Cut}
+use Rattle.vc_resync.specs.declared.feeding.Found.TheVariants.{More, Head as HeadFound}
 use Rattle.vc_resync.specs.Seeking.{Matches, Sought}
-use Rattle.vc_resync.specs.Collecting.{put_at, IsBegun, IsOpen, Taken}
-use Rattle.vc_resync.proofs.Matching.{length_of_matched, none_there, one_there, matched_few, matches_on}
-use Rattle.vc_resync.proofs.Putting.{length_put, put_to_end, put_before}
-use Rattle.vc_resync.proofs.Taking.{take_none, take_begun, take_illegal_none, take_illegal_some, take_head, take_open, take_whole, take_cut, header_alone}
+use Rattle.vc_resync.specs.Collecting.{put_at, IsBegun, IsOpen, Taken, Grows}
+use Rattle.vc_resync.proofs.Matching.{none_there, one_there, matched_few}
+use Rattle.vc_resync.proofs.Putting.{put_to_end, put_before}
+use Rattle.vc_resync.proofs.Taking.{take_none, take_begun, take_illegal_none, take_illegal_some, take_head, header_alone}
 
 -- bytes that end with a magic
 pub magic_at_end : (xs : List ℕ) (m : ℕ) → Matches xs m → m ≡ 8 → drop (length xs - 8) xs ≡ magic
@@ -185,3 +183,9 @@ illegal_taken limit head body tail bytes after count now long front none s kept 
         let at : 8 + (count - 8) ≡ count = omega (arith, few, is8, length-take count (drop 8 head)) in
         subst (λ (t : List ℕ). Taken limit tail bytes More body t) (ap (λ t. drop (count - 8) (drop 8 t)) all ∙ drop-drop (count - 8) 8 head ∙ ap (λ k. drop k head) at ∙ sym is)
         (take_illegal_some limit tail bytes body (count - 8) magic_first (ap length all ∙ long) (ap (λ t. header_from limit t) all ∙ none) inner)
+
+pub look_on_grows : (m : ℕ) (bytes : List ℕ) (count now n : ℕ) → Sought m bytes count now → n ≡ now → Grows (length (take m magic)) count n
+look_on_grows m bytes count now n s e = record {
+  most = omega (arith, e, matched_few (take m magic ++ take count bytes) now s.matches, length-append (take m magic) (take count bytes), length-take count bytes);
+  far = λ h. absurd (omega (arith, e, s.matches.most));
+}

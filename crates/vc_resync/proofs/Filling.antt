@@ -1,19 +1,18 @@
 -- What the bytes of a frame make of the kept bytes.
-use Rattle.std.proofs.Common.{◌≡◌, ◌≢◌, ◌∙◌, sym, ap, refl, subst, ℕ, suc, zero, ◌+◌, ◌-◌, ◌<◌, ◌≤◌, List, [], ◌∷◌, ◌++◌, length, take, drop, arith, append_assoc, length-append, length-take, length-drop}
+use Rattle.std.proofs.Common.{◌≡◌, ◌≢◌, ◌∙◌, sym, ap, refl, subst, ℕ, suc, ◌+◌, ◌-◌, ◌<◌, ◌≤◌, List, [], ◌∷◌, ◌++◌, length, take, drop, arith, append_assoc, length-append, length-drop}
 use Rattle.std.specs.Prelude.{Bool, true, false, nat_lt, cond}
-use Rattle.std.specs.declared.option.Option.TheVariants.{Some, None}
 use Rattle.std.proofs.lemmas.Bool.Decides.{nat_tests}
-use Rattle.std.proofs.lemmas.List.{take_all, drop-drop, take-take, length-take-le, drop-append-le, drop_at}
+use Rattle.std.proofs.lemmas.List.{take_all, drop-drop, length-take-le, drop-append-le, drop_at}
 use Rattle.vc_defs.specs.declared.Header.{Header}
 use Rattle.vc_defs.specs.Headers.{magic}
-use Rattle.vc_defs.specs.Places.{first_magic, start_of_magic}
-use Rattle.vc_defs.proofs.Looking.{is_start, magic_inside}
+use Rattle.vc_defs.specs.Places.{start_of_magic}
+use Rattle.vc_defs.proofs.Looking.{is_start}
 use Rattle.vc_defs.proofs.Splitting.{Heads}
 use Rattle.vc_resync.specs.declared.feeding.Found.TheVariants.{More, Whole, Cut}
-use Rattle.vc_resync.specs.Seeking.{Matches, Sought}
+use Rattle.vc_resync.specs.Seeking.{Matches}
 use Rattle.vc_resync.specs.Collecting.{put_at, IsOpen, Taken}
 use Rattle.vc_resync.proofs.Matching.{length_of_matched, none_there, one_there, matched_few, matches_on}
-use Rattle.vc_resync.proofs.Putting.{length_put, put_to_end, put_before}
+use Rattle.vc_resync.proofs.Putting.{length_put, put_to_end}
 use Rattle.vc_resync.proofs.Taking.{take_open, take_whole, take_cut}
 use Rattle.vc_resync.proofs.Collecting.{magic_at_end, heads_front}
 

@@ -3,3 +3,7 @@ pub mod Putting
 pub mod Taking
 pub mod Collecting
 pub mod Filling
+pub mod Composing
+pub mod Stamping
+pub mod Answering
+pub mod Keeping

@@ -1,18 +1,16 @@
 -- How far a magic has come in bytes, when more bytes come.
-use Rattle.std.proofs.Common.{eq-eqb, ◌≡◌, ◌≢◌, ◌∙◌, sym, ap, refl, subst, ℕ, suc, zero, ◌+◌, ◌-◌, ◌<◌, ◌≤◌, inl, inr, List, [], ◌∷◌, ◌++◌, length, take, drop, get_or, arith, append_assoc, length-append, length-take, length-drop}
-use Rattle.std.specs.Prelude.{Bool, true, false, ◌==◌, slice_index, nat_eq, nat_le, nat_lt, cond}
+use Rattle.std.proofs.Common.{eq-eqb, ◌≡◌, ◌≢◌, ◌∙◌, sym, ap, refl, subst, ℕ, suc, zero, ◌+◌, ◌-◌, ◌<◌, ◌≤◌, List, [], ◌∷◌, ◌++◌, length, take, drop, get_or, arith, append_assoc, length-append, length-take, length-drop}
+use Rattle.std.specs.Prelude.{Bool, true, false, ◌==◌, slice_index, nat_eq, nat_lt, cond}
 use Rattle.std.specs.declared.option.Option.{Option}
 use Rattle.std.specs.declared.option.Option.TheVariants.{Some, None}
-use Rattle.std.proofs.lemmas.Option.{none-some}
-use Rattle.std.proofs.lemmas.Bool.{cond-true, cond-false, cases_lt}
+use Rattle.std.proofs.lemmas.Bool.{cond-true, cond-false}
 use Rattle.std.proofs.lemmas.Bool.Decides.{nat_tests}
 use Rattle.std.proofs.lemmas.Slice.Eq.{bytes_eq-Decides}
 use Rattle.std.proofs.lemmas.List.{take_at, take-take, take_more, take_rest, get_or-take, length-take-le}
 use Rattle.std.proofs.Math.Seq.{take-add}
 use Rattle.vc_defs.specs.Headers.{magic}
 use Rattle.vc_defs.specs.Places.{one_further, first_magic, start_of_magic}
-use Rattle.vc_defs.proofs.Parsing.{some_same}
-use Rattle.vc_defs.proofs.Looking.{is_magic, is_start, not_true, is_magic_long, magic_inside}
+use Rattle.vc_defs.proofs.Looking.{is_magic, is_start, not_true, magic_inside}
 use Rattle.vc_defs.proofs.Continuing.{Skips, Started, skips_to_start}
 use Rattle.vc_resync.specs.Seeking.{Matches}
 

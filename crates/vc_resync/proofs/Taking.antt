@@ -1,5 +1,5 @@
 -- What taking bytes behind a tail tells and keeps, by what stands in them.
-use Rattle.std.proofs.Common.{◌≡◌, ◌≢◌, ◌∙◌, sym, ap, refl, subst, ℕ, suc, zero, ◌+◌, ◌-◌, ◌<◌, ◌≤◌, List, [], ◌∷◌, ◌++◌, length, take, drop, arith, length-append, length-take, length-drop}
+use Rattle.std.proofs.Common.{◌≡◌, ◌≢◌, ◌∙◌, sym, ap, refl, subst, ℕ, suc, zero, ◌+◌, ◌-◌, ◌<◌, ◌≤◌, List, [], ◌∷◌, ◌++◌, length, take, drop, arith, length-drop}
 use Rattle.std.specs.Prelude.{Bool, true, false, nat_eq, nat_le, nat_lt, cond}
 use Rattle.std.specs.declared.option.Option.{Option}
 use Rattle.std.specs.declared.option.Option.TheVariants.{Some, None}
@@ -7,16 +7,16 @@ use Rattle.std.proofs.lemmas.Bool.{cond-true, cond-false}
 use Rattle.std.proofs.lemmas.Bool.Decides.{nat_tests}
 use Rattle.std.proofs.lemmas.List.{take_all, drop-drop}
 use Rattle.vc_defs.specs.declared.Header.{Header}
-use Rattle.vc_defs.specs.Headers.{magic, header_from}
-use Rattle.vc_defs.specs.Places.{first_magic, start_of_magic, Look, nothing, begun, no_header, unended, cut, whole, look_behind, look_at_header, look_at, look_from, look, Frame, Places, places_at, places_from, places, joined}
-use Rattle.vc_defs.specs.Finds.{Find, Head, Ended, known_at, finds, told_of_tail, kept_before}
+use Rattle.vc_defs.specs.Headers.{header_from}
+use Rattle.vc_defs.specs.Places.{first_magic, start_of_magic, nothing, begun, no_header, unended, cut, whole, look_behind, look_at_header, look_from, look, Frame, Places, places_at, places_from, places, joined}
+use Rattle.vc_defs.specs.Finds.{Find, Head, Ended, finds, told_of_tail}
 use Rattle.vc_defs.proofs.Looking.{is_magic, magic_inside}
 use Rattle.vc_defs.proofs.InnerMagic.{inner_magic, magic_there}
 use Rattle.vc_defs.proofs.Ordering.{finds_of}
 use Rattle.vc_defs.proofs.Splitting.{Heads, look_front, first_at_front}
 use Rattle.vc_resync.specs.declared.feeding.Found.{Found}
 use Rattle.vc_resync.specs.declared.feeding.Found.TheVariants.{More, Head as HeadFound, Whole, Cut}
-use Rattle.vc_resync.specs.Collecting.{BodyIs, TakenFind, TakenBy, Taken}
+use Rattle.vc_resync.specs.Collecting.{TakenFind, TakenBy, Taken}
 use Rattle.vc_resync.proofs.Matching.{short_none}
 
 -- places with nothing known

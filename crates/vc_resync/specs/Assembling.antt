@@ -1,6 +1,6 @@
 -- What an assembly is for its caller, and what a call tells.
 -- All of it is docs/FORMAT.md, "Frame places".
-use Rattle.std.specs.Prelude.{ℕ, List}
+use Rattle.std.specs.Prelude.{ℕ, List, Bool, true, false}
 use Rattle.std.specs.declared.option.Option.{Option}
 use Rattle.std.specs.declared.option.Option.TheVariants.{Some, None}
 use Rattle.vc_base.specs.declared.Stamp.{Stamp}
@@ -44,3 +44,20 @@ frame_of (Some (Ended f)) stamp = Some (record { body = f.body; stamp = stamp })
 -- the assembly after a call
 abbrev pub assembly_after : AssemblyState → FedStep → AssemblyState
 assembly_after assembly step = record { limit = assembly.limit; kept = step.kept; told = frame_of step.told step.stamp }
+
+-- the body of a frame that was told
+abbrev pub told_body : Option ToldFrame → Option (List ℕ)
+told_body None = None
+told_body (Some f) = f.body
+
+-- the stamp of the first byte of a frame that was told
+abbrev pub told_stamp : Option ToldFrame → Option Stamp
+told_stamp None = None
+told_stamp (Some f) = Some f.stamp
+
+-- whether an answer tells a header or a frame
+abbrev pub is_told : Found → Bool
+is_told More = false
+is_told (HeadFound h) = true
+is_told (Whole h) = true
+is_told (Cut h) = true

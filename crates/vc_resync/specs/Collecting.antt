@@ -5,7 +5,7 @@ use Rattle.std.specs.declared.option.Option.TheVariants.{Some, None}
 use Rattle.vc_base.specs.declared.Stamp.{Stamp}
 use Rattle.vc_defs.specs.declared.Header.{Header}
 use Rattle.vc_defs.specs.Headers.{magic, header_from}
-use Rattle.vc_defs.specs.Places.{Frame, places}
+use Rattle.vc_defs.specs.Places.{places}
 use Rattle.vc_defs.specs.Finds.{Find, Head, Ended, position_of, known_at, finds, told_of_tail, kept_before}
 use Rattle.vc_resync.specs.declared.feeding.Found.{Found}
 use Rattle.vc_resync.specs.declared.feeding.Found.TheVariants.{More, Head as HeadFound, Whole, Cut}
@@ -82,6 +82,11 @@ TakenBy limit tail all found body after (find ∷ later) = TakenFind limit tail 
 unfoldable pub Taken : ℕ → List ℕ → List ℕ → Found → List ℕ → List ℕ → Type 0
 Taken limit tail bytes found body after =
     TakenBy limit tail (tail ++ bytes) found body after (drop (told_of_tail tail) (finds (tail ++ bytes) limit))
+
+-- how many bytes are kept behind so many more: where more than 43 are, all of them
+pub record Grows (before count after : ℕ) : Type 0 where
+  pub most : after ≤ before + count
+  pub far : 43 < after → (after ≡ before + count) × (0 < before)
 
 -- what a frame that was told is, by its answer: its body stands in front of these bytes
 abbrev pub frame_found : Found → List ℕ → Stamp → Option ToldFrame

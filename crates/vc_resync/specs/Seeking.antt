@@ -1,6 +1,5 @@
 -- How far a magic has come in bytes: docs/FORMAT.md, "Frame places".
 use Rattle.std.specs.Prelude.{◌≡◌, ℕ, ◌-◌, ◌<◌, ◌≤◌, List, ◌++◌, length, take, nat_lt, if◌then◌else◌}
-use Rattle.std.specs.declared.option.Option.{Option}
 use Rattle.std.specs.declared.option.Option.TheVariants.{Some, None}
 use Rattle.vc_defs.specs.Headers.{magic}
 use Rattle.vc_defs.specs.Places.{first_magic, start_of_magic}

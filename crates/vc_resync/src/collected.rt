@@ -5,7 +5,7 @@ ghost use Rattle.vc_defs.specs.Headers.{magic};
 ghost use Rattle.vc_defs.specs.Places.{start_of_magic};
 ghost use Rattle.vc_resync.specs.Seeking.{Sought};
 ghost use Rattle.vc_resync.specs.declared.feeding.Found.TheVariants.{More};
-ghost use Rattle.vc_resync.specs.Collecting.{put_at, kept_in, HasRoom, IsSound, IsBegun, IsOpen, Taken};
+ghost use Rattle.vc_resync.specs.Collecting.{put_at, kept_in, HasRoom, IsSound, IsBegun, IsOpen, Taken, Grows};
 
 use crate::feeding::Found;
 use crate::seeking::{MAGIC, seek};
@@ -104,6 +104,7 @@ impl Collected {
         ensures limit { self.new.limit ≡ self.old.limit }
         ensures sound { IsSound self.new }
         ensures inside { result.0 ≤ length bytes.now }
+        ensures grows { Grows (length (kept_in self.old)) result.0 (length (kept_in self.new)) }
         ensures taken { Taken self.old.limit (kept_in self.old) (take result.0 bytes.now) result.1 self.new.body.items (kept_in self.new) }
         ensures moves { result.1 ≡ More → 0 < length bytes.now → 0 < result.0 }
     {
@@ -125,6 +126,7 @@ impl Collected {
         ensures limit { self.new.limit ≡ self.old.limit }
         ensures sound { IsSound self.new }
         ensures inside { result.0 ≤ length bytes.now }
+        ensures grows { Grows (length (take matched magic)) result.0 (length (kept_in self.new)) }
         ensures taken { Taken self.old.limit (take matched magic) (take result.0 bytes.now) result.1 self.new.body.items (kept_in self.new) }
         ensures moves { 0 < length bytes.now → 0 < result.0 }
     {
@@ -145,6 +147,7 @@ impl Collected {
         ensures limit { self.new.limit ≡ self.old.limit }
         ensures sound { IsSound self.new }
         ensures inside { result.0 ≤ length bytes.now }
+        ensures grows { Grows (length (take there self.old.head)) result.0 (length (kept_in self.new)) }
         ensures taken { Taken self.old.limit (take there self.old.head) (take result.0 bytes.now) result.1 self.new.body.items (kept_in self.new) }
         ensures moves { 0 < length bytes.now → 0 < result.0 }
     {
@@ -165,6 +168,7 @@ impl Collected {
         requires front { take 8 self.old.head ≡ magic }
         ensures limit { self.new.limit ≡ self.old.limit }
         ensures sound { IsSound self.new }
+        ensures few { length (kept_in self.new) ≤ 44 }
         ensures taken { (tail bytes : List ℕ) → tail ++ bytes ≡ self.old.head → 0 < length tail → length tail < 44 → Taken self.old.limit tail bytes result self.new.body.items (kept_in self.new) }
     {
         let (count, matched) = seek(0, &self.head[8..]);
@@ -190,6 +194,7 @@ impl Collected {
         requires sought { Sought 0 (drop 8 self.old.head) count matched }
         ensures limit { self.new.limit ≡ self.old.limit }
         ensures sound { IsSound self.new }
+        ensures few { length (kept_in self.new) ≤ 44 }
         ensures kept { kept_in self.new ≡ (if nat_lt matched 8 then start_of_magic (drop 8 self.old.head) else drop count self.old.head) }
     {
         if matched < 8 {
@@ -215,6 +220,7 @@ impl Collected {
         ensures limit { self.new.limit ≡ self.old.limit }
         ensures sound { IsSound self.new }
         ensures inside { result.0 ≤ length bytes.now }
+        ensures grows { Grows (length (self.old.head ++ take filled self.old.body.items)) result.0 (length (kept_in self.new)) }
         ensures taken { Taken self.old.limit (self.old.head ++ take filled self.old.body.items) (take result.0 bytes.now) result.1 self.new.body.items (kept_in self.new) }
         ensures moves { result.1 ≡ More → 0 < length bytes.now → 0 < result.0 }
     {

@@ -9,6 +9,7 @@ mod collected;
 mod feeding;
 mod seeking;
 mod stamps;
+mod told;
 
 pub use assembly::Assembly;
 pub use feeding::{Found, feed};

@@ -1,8 +1,7 @@
-use Rattle.std.proofs.Common.{◌≡◌, ◌∙◌, ◌++◌, ◌+◌, ◌-◌, ◌<◌, ◌≤◌, sym, ap, ℕ, List, subst, drop, length, take, arith, length-take}
+use Rattle.std.proofs.Common.{◌≡◌, ◌∙◌, ◌++◌, ◌+◌, ◌<◌, ◌≤◌, sym, ap, ℕ, List, subst, length, take, arith}
 use Rattle.std.proofs.lemmas.List.{length-take-le, take-take}
 use Rattle.vc_defs.specs.Headers.{magic}
 use Rattle.vc_resync.specs.Seeking.{Matches, Sought}
-use Rattle.vc_resync.specs.Collecting.{IsSound}
 use Rattle.vc_resync.proofs.Putting.{length_put}
 use Rattle.vc_resync.proofs.Filling.{cut_taken, whole_taken, more_taken, more_open}
 use Rattle.vc_resync.proofs.collected.Collected.fill.Goals as goal

@@ -1,8 +1,7 @@
-use Rattle.std.proofs.Common.{◌≡◌, ◌∙◌, ◌+◌, ◌-◌, ◌<◌, sym, ap, ℕ, List, subst, drop, length, take, arith, length-drop}
+use Rattle.std.proofs.Common.{◌≡◌, ◌∙◌, sym, ap, length, take, arith}
 use Rattle.std.proofs.lemmas.List.{length-take-le}
-use Rattle.vc_resync.specs.Collecting.{IsSound}
 use Rattle.vc_resync.proofs.Putting.{length_put}
-use Rattle.vc_resync.proofs.Collecting.{go_on_begun, go_on_front, go_on_taken, go_on_whole}
+use Rattle.vc_resync.proofs.Collecting.{go_on_begun, go_on_front, go_on_taken}
 use Rattle.vc_resync.proofs.collected.Collected.go_on.Goals as goal
 
 pub returns-then-there-count-lt44-clause-sound : goal.returns-then-there-count-lt44-clause-sound

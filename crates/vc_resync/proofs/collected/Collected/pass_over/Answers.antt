@@ -1,8 +1,7 @@
-use Rattle.std.proofs.Common.{◌≡◌, ◌∙◌, ◌+◌, ◌-◌, ap, take, drop, length, arith, length-drop, length-take}
+use Rattle.std.proofs.Common.{◌∙◌, ◌-◌, ap, take, drop, length, arith, length-drop, length-take}
 use Rattle.std.proofs.lemmas.List.{take_all}
-use Rattle.vc_resync.specs.Collecting.{HasRoom, IsSound}
 use Rattle.vc_resync.proofs.Putting.{length_put}
-use Rattle.vc_resync.proofs.Collecting.{pass_over_begun, pass_over_kept}
+use Rattle.vc_resync.proofs.Collecting.{pass_over_begun}
 use Rattle.vc_resync.proofs.collected.Collected.pass_over.Goals as goal
 
 pub returns-clause-sound : goal.returns-clause-sound
