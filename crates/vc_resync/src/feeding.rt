@@ -2,7 +2,7 @@
 
 ghost use Rattle.std.specs.Prelude.{◌≡◌, ◌≤◌, false, length};
 ghost use Rattle.vc_defs.specs.Finds.{fed};
-ghost use Rattle.vc_resync.specs.Assembling.{is_told, found_of, assembly_after};
+ghost use Rattle.vc_resync.specs.Assembling.{is_told, found_of, assembly_after, IsToldBy, IsLegalAnswer};
 
 use crate::assembly::Assembly;
 use vc_base::Stamp;
@@ -42,6 +42,8 @@ pub fn feed(assembly: &mut Assembly, piece: &[u8], stamp: Stamp) -> (usize, Foun
     ensures taken { result.0 ≡ (fed assembly.old.kept assembly.old.limit piece.now stamp).moved }
     ensures found { result.1 ≡ found_of (fed assembly.old.kept assembly.old.limit piece.now stamp).told }
     ensures after { assembly.new ≡ assembly_after assembly.old (fed assembly.old.kept assembly.old.limit piece.now stamp) }
+    ensures legal { IsLegalAnswer assembly.old.limit result.1 }
+    ensures told { IsToldBy result.1 assembly.new.told }
     ensures inside { result.0 ≤ length piece.now }
     ensures all { is_told result.1 ≡ false → result.0 ≡ length piece.now }
 {
