@@ -5,7 +5,7 @@ use Rattle.vc_base.specs.declared.Side.TheVariants.{Out, Cap}
 use Rattle.vc_base.specs.declared.Errno.{Errno}
 use Rattle.vc_base.specs.declared.Errno.TheVariants.{NoEnt, Again, NoMem}
 use Rattle.vc_base.specs.declared.Call.{Call}
-use Rattle.vc_base.specs.declared.Call.TheVariants.{Close}
+use Rattle.vc_base.specs.declared.Call.TheVariants.{Open, Close, ReqBufs, CreateBufs}
 use Rattle.vc_base.specs.declared.Reply.{Reply}
 use Rattle.vc_base.specs.declared.Reply.TheVariants.{Refused, Blocked}
 use Rattle.vc_base.specs.Buffers.{Buffer, QueueState, is_empty}
@@ -16,11 +16,15 @@ use Rattle.vc_model.specs.Answer.{Answer}
 abbrev pub AreFilled : List Buffer → Type 0
 AreFilled bs = list_all (λ b. nat_le b.used b.size) bs ≡ true
 
--- What holds of every context that a device keeps.
+-- What holds of every context that a device keeps: no buffer that the user doesn't hold has more used bytes than
+-- it has room for, and none is in the job where no job runs.
 pub record IsKept (c : Context) : Type 0 where
   pub out_side : c.out.side ≡ Out
   pub cap_side : c.cap.side ≡ Cap
   pub filled : AreFilled c.out.ready
+  pub job_filled : AreFilled c.out.job
+  pub out_filled : AreFilled c.out.done
+  pub cap_filled : AreFilled c.cap.done
   pub out_idle : c.running ≡ None → c.out.job ≡ []
   pub cap_idle : c.running ≡ None → c.cap.job ≡ []
 
@@ -80,3 +84,10 @@ pub record HasRoom (c : Context) : Type 0 where
 abbrev pub is_close : Call → Bool
 is_close Close = true
 is_close request = false
+
+-- the calls that take memory
+abbrev pub TakesMemory : Call → Type 0
+TakesMemory (Open kind) = Unit {0}
+TakesMemory (ReqBufs side count) = Unit {0}
+TakesMemory (CreateBufs side count size) = Unit {0}
+TakesMemory request = ⊥

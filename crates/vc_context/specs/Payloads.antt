@@ -1,5 +1,5 @@
 -- What a call does to the payloads that the user holds.
-use Rattle.std.specs.Prelude.{ℕ, ◌≡◌, ◌++◌, take, replicate, Some, None, List, [], ◌∷◌}
+use Rattle.std.specs.Prelude.{ℕ, ◌≡◌, ◌≤◌, ◌++◌, length, take, replicate, Some, None, List, [], ◌∷◌}
 use Rattle.vc_base.specs.declared.Side.{Side}
 use Rattle.vc_base.specs.declared.Side.TheVariants.{Out, Cap}
 use Rattle.vc_base.specs.declared.Call.{Call}
@@ -50,11 +50,12 @@ abbrev pub handed_out : Slot → Side → List ℕ
 handed_out None side = []
 handed_out (Some c) side = front_bytes (queue_of c side).done
 
--- The payload of the buffer goes to the user, and begins with the bytes handed out. Of an OUTPUT buffer
--- with ERROR only the size is known.
+-- The payload of the buffer goes to the user: it has room for the used bytes, and begins with the bytes
+-- handed out. Of an OUTPUT buffer with ERROR only the size is known.
 pub record HandsOut (side : Side) (index used flags : ℕ) (handed : List ℕ) (old new : HoldState) : Type 0 where
   pub payload : List ℕ
   pub moved : new ≡ with_payload old side index (Some payload)
+  pub room : used ≤ length payload
   pub begins : known_bytes side flags (take used payload) ≡ handed
 
 -- What the call does to the payloads that the user holds. A refusal and Blocked leave them.

@@ -1,21 +1,22 @@
 -- What a job takes out of its context, and what comes back of it: the data of the model and the work of the code.
 -- The runs are docs/DEVICE.md, "Runs".
-use Rattle.std.specs.Prelude.{ℕ, ◌≡◌, length, take, map, is_some, true, Option, Some, None, Result, Ok, Err, List, [], ◌∷◌}
+use Rattle.std.specs.Prelude.{ℕ, ◌≡◌, ◌≤◌, length, take, map, is_some, Bool, true, Option, Some, None, Result, Ok, Err, List, [], ◌∷◌}
+use Rattle.vc_base.specs.declared.Format.{Format}
 use Rattle.vc_base.specs.Buffers.{Buffer, without_bytes}
-use Rattle.vc_defs.specs.Encoder.{RunRates}
-use Rattle.vc_model.specs.Coder.{CodecState, no_codec}
-use Rattle.vc_model.specs.Context.{Context, Running, RunSort, copy}
-use Rattle.vc_model.specs.Runs.{JobData, RunResult, copied}
+use Rattle.vc_defs.specs.Encoder.{EncoderState, EncodedFrame}
+use Rattle.vc_model.specs.Coder.{CodecState, no_codec, encoder, decoder}
+use Rattle.vc_model.specs.Context.{Context, Running, RunSort, copy, encode}
+use Rattle.vc_model.specs.Runs.{JobData, RunResult, copied, encoded}
 use Rattle.vc_model.specs.Core.{BroughtBack}
 use Rattle.vc_model.specs.Sound.{HasCodec as HasCodecOfKind, IsRunOf, dest_count}
-use Rattle.vc_work.specs.Runs.{dest_bytes}
+use Rattle.vc_work.specs.References.{CodecReference}
+use Rattle.vc_work.specs.Runs.{dest_bytes, run_rates, format_geometry, HasGeometry}
 use Rattle.vc_work.specs.declared.work.Sort.{Sort}
 use Rattle.vc_work.specs.declared.work.Sort.TheVariants as sort
 use Rattle.vc_work.specs.declared.work.Piece.{Piece}
-use Rattle.vc_work.specs.declared.work.Rates.{Rates}
 use Rattle.vc_work.specs.declared.work.Work.{Work}
 use Rattle.vc_work.specs.declared.engine.Outcome.{Outcome}
-use Rattle.vc_work.specs.declared.engine.Outcome.TheVariants.{Copied}
+use Rattle.vc_work.specs.declared.engine.Outcome.TheVariants.{Copied, Encoded}
 use Rattle.vc_work.specs.declared.engine.EngineFault.{EngineFault}
 
 -- The work of a job
@@ -23,10 +24,8 @@ use Rattle.vc_work.specs.declared.engine.EngineFault.{EngineFault}
 -- the sort of the run
 abbrev pub IsSort : RunSort → Sort → Type 0
 IsSort copy sort.Copy = Unit {0}
-IsSort run mine = ⊥
-
-abbrev pub rates_of : Rates → RunRates
-rates_of r = record { gop = r.gop; iqp = r.iqp; pqp = r.pqp }
+IsSort encode sort.Encode = Unit {0}
+IsSort other mine = ⊥
 
 -- The source is the buffer, with a payload of its size.
 pub record IsSource (b : Buffer) (piece : Piece) : Type 0 where
@@ -42,13 +41,19 @@ IsDest [] None = Unit {0}
 IsDest (b ∷ []) (Some payload) = length payload ≡ b.size
 IsDest bs payload = ⊥
 
--- the state of the codec, as a run of the sort has it
-abbrev pub HasState : CodecState → Sort → Type 0
-HasState no_codec sort.Copy = Unit {0}
-HasState codec mine = ⊥
+-- the reference is there, and has the state
+abbrev pub HasState : EncoderState → Option CodecReference → Type 0
+HasState state None = ⊥
+HasState state (Some r) = r.state ≡ state
+
+-- the state of the codec, as a run of the sort takes it: a copy run has none, and that of an encoder is in the reference
+abbrev pub IsCodec : CodecState → Sort → Option CodecReference → Type 0
+IsCodec no_codec sort.Copy reference = Unit {0}
+IsCodec (encoder state) sort.Encode reference = HasState state reference
+IsCodec codec mine reference = ⊥
 
 abbrev pub HasCodec : CodecState → Work → Type 0
-HasCodec codec work = HasState codec work.sort
+HasCodec codec work = IsCodec codec work.sort work.reference
 
 -- The work has the data of the job.
 pub record IsWork (j : JobData) (work : Work) : Type 0 where
@@ -56,9 +61,10 @@ pub record IsWork (j : JobData) (work : Work) : Type 0 where
   pub codec : HasCodec j.codec work
   pub source : IsSource j.source work.source
   pub dest : IsDest j.dest (dest_bytes work)
+  pub geometry : work.geometry ≡ j.geometry
   pub format : work.format ≡ j.format
   pub limit : work.limit ≡ j.limit
-  pub rates : rates_of work.rates ≡ j.rates
+  pub rates : run_rates work.rates ≡ j.rates
 
 -- the work has the data, where there are any
 abbrev pub IsWorkWith : Option JobData → Work → Type 0
@@ -87,6 +93,11 @@ abbrev pub RunsInWith : Context → Option JobData → Type 0
 RunsInWith c None = ⊥
 RunsInWith c (Some j) = RunsIn c j
 
+-- the buffer in the job, where there is one, has the index
+abbrev pub IsIndexOf : ℕ → List Buffer → Type 0
+IsIndexOf index [] = Unit {0}
+IsIndexOf index (b ∷ rest) = b.index ≡ index
+
 -- What comes back
 
 -- The source comes back as it was queued, with a payload of its size. What it holds is told by the result.
@@ -100,22 +111,43 @@ abbrev pub HasFront : List ℕ → Option (List ℕ) → Type 0
 HasFront bytes None = ⊥
 HasFront bytes (Some payload) = take (length bytes) payload ≡ bytes
 
--- the bytes were copied, and the source has its own
-pub record IsCopiedBack (bytes : List ℕ) (source : Buffer) (work : Work) (used : ℕ) : Type 0 where
+-- the bytes stand at the front of the destination, and the source has its own
+pub record HasBytes (bytes : List ℕ) (source : Buffer) (work : Work) (used : ℕ) : Type 0 where
   pub told : used ≡ length bytes
   pub front : HasFront bytes (dest_bytes work)
   pub source_bytes : take source.used work.source.payload.items ≡ source.bytes
 
--- the run came to this result, or the engine gave up
+-- The frame stands there, and the reference has the state after it, with a picture of the job's format.
+pub record HasFrame (frame : EncodedFrame) (j : JobData) (work : Work) (used : ℕ) (key : Bool) : Type 0 where
+  pub bytes : HasBytes frame.bytes j.source work used
+  pub told_key : key ≡ frame.key
+  pub state : HasState frame.state work.reference
+  pub picture : HasGeometry (format_geometry j.format) frame.state.reference
+
+-- a reference that was lent is there, and has room for a picture of the format
+abbrev pub HasRoomFor : Format → Option CodecReference → Type 0
+HasRoomFor format None = ⊥
+HasRoomFor format (Some r) = format.size ≤ r.size
+
+abbrev pub HasAreas : CodecState → Format → Work → Type 0
+HasAreas no_codec format work = Unit {0}
+HasAreas (encoder state) format work = HasRoomFor format work.reference
+HasAreas (decoder state) format work = ⊥
+
+-- the run was one of the job's sort and came to this result, or the engine gave up
 abbrev pub IsResult : Option RunResult → JobData → Work → Result Outcome EngineFault → Type 0
 IsResult None j work (Err fault) = Unit {0}
-IsResult (Some (copied bytes)) j work (Ok (Copied used)) = IsCopiedBack bytes j.source work used
+IsResult (Some (copied bytes)) j work (Ok (Copied used)) =
+    (j.sort ≡ copy) × HasBytes bytes j.source work used
+IsResult (Some (encoded frame)) j work (Ok (Encoded used key)) =
+    (j.sort ≡ encode) × HasFrame frame j work used key
 IsResult back j work result = ⊥
 
 -- What is brought back of a job is this work, with this result of its run.
 pub record IsBack (back : BroughtBack) (work : Work) (result : Result Outcome EngineFault) : Type 0 where
   pub source : IsSourceBack back.job.source work.source
   pub dest : IsDest back.job.dest (dest_bytes work)
+  pub areas : HasAreas back.job.codec back.job.format work
   pub came_to : IsResult back.result back.job work result
 
 -- What is brought back is of the job that runs in the context.
