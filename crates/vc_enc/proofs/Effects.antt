@@ -19,6 +19,7 @@ use Rattle.vc_model.specs.Sound.{AreLong}
 use Rattle.vc_work.specs.References.{CodecReference}
 use Rattle.vc_pair.specs.Pairs.{PairState, queue_at, with_queue_at, pair_at_last, pair_taken, pair_marked, pair_started, pair_off, both_streaming}
 use Rattle.vc_context.specs.Contexts.{AreFilled}
+use Rattle.vc_context.proofs.Going.{taken_goes}
 use Rattle.vc_enc.specs.declared.InJob.{InJob}
 use Rattle.vc_enc.specs.Encoders.{AreWhole, IsSupplied, KnowsItsJob, IsEncoder, is_part, new_reference, IsInJob}
 use Rattle.vc_enc.proofs.Going.{GoesQueue, Goes, AreFine, IsEffect, stays, all_stays, no_effect, still_supplied, supplied_here}
@@ -54,13 +55,13 @@ module _ (formats : FormatPair) (p : PairState) (reference : Option CodecReferen
   pub on_effect : (side : Side) → IsEffect formats reference job p (with_queue_at p side (streamon_after (queue_at p side)))
   on_effect Out =
       record {
-        goes = record { out = record { side = refl; job = refl; streams = λ _ e. refl; queued = omega arith; retired = omega arith }; cap = stays w p.cap; phase = λ _ e. e };
+        goes = record { out = record { side = refl; job = refl; streams = λ _ e. refl; queued = omega arith; retired = omega arith; filled = λ h. h }; cap = stays w p.cap; phase = λ _ e. e };
         fine = record { whole = inv.whole; filled = filled; long = inv.long };
         supplied = here.supplied;
       }
   on_effect Cap =
       record {
-        goes = record { out = stays w p.out; cap = record { side = refl; job = refl; streams = λ _ e. refl; queued = omega arith; retired = omega arith }; phase = λ _ e. e };
+        goes = record { out = stays w p.out; cap = record { side = refl; job = refl; streams = λ _ e. refl; queued = omega arith; retired = omega arith; filled = λ h. h }; phase = λ _ e. e };
         fine = record { whole = inv.whole; filled = filled; long = inv.long };
         supplied = here.supplied;
       }
@@ -103,7 +104,7 @@ module _ (formats : FormatPair) (p : PairState) (reference : Option CodecReferen
           let x : Buffer = queued_buffer Out b used stamp bytes p.out.next_ordinal in
           let same : queued_buffer p.out.side b used stamp bytes p.out.next_ordinal ≡ x = ap (λ (y : Side). queued_buffer y b used stamp bytes p.out.next_ordinal) s in
           record {
-            goes = record { out = record { side = refl; job = refl; streams = λ _ h. h; queued = omega arith; retired = omega arith }; cap = stays w p.cap; phase = λ _ h. h };
+            goes = record { out = record { side = refl; job = refl; streams = λ _ h. h; queued = omega arith; retired = omega arith; filled = λ h. h }; cap = stays w p.cap; phase = λ _ h. h };
             fine = record {
               whole = subst (λ (y : Buffer). AreWhole formats.out.size (p.out.ready ++ y ∷ [])) (sym same) (all_end (λ y. y.used == formats.out.size) p.out.ready x inv.whole (not-false (used == formats.out.size) whole));
               filled = subst (λ (y : Buffer). AreFilled (p.out.ready ++ y ∷ [])) (sym same) (all_end (λ y. nat_le y.used y.size) p.out.ready x filled room);
@@ -123,7 +124,7 @@ module _ (formats : FormatPair) (p : PairState) (reference : Option CodecReferen
           let x : Buffer = queued_buffer Cap b used stamp bytes p.cap.next_ordinal in
           let same : queued_buffer p.cap.side b used stamp bytes p.cap.next_ordinal ≡ x = ap (λ (y : Side). queued_buffer y b used stamp bytes p.cap.next_ordinal) s in
           record {
-            goes = record { out = stays w p.out; cap = record { side = refl; job = refl; streams = λ _ h. h; queued = omega arith; retired = omega arith }; phase = λ _ h. h };
+            goes = record { out = stays w p.out; cap = record { side = refl; job = refl; streams = λ _ h. h; queued = omega arith; retired = omega arith; filled = λ h. h }; phase = λ _ h. h };
             fine = record {
               whole = inv.whole;
               filled = filled;
@@ -134,10 +135,10 @@ module _ (formats : FormatPair) (p : PairState) (reference : Option CodecReferen
 
   -- DqBuf
 
-  taken_queue : (q : QueueState) (ds : List Buffer) → GoesQueue w q (take_front q ds)
-  taken_queue q [] = stays w q
-  taken_queue q (b ∷ rest) =
-      record { side = refl; job = refl; streams = λ _ e. e; queued = omega arith; retired = omega arith }
+  taken_queue : (q : QueueState) (ds : List Buffer) → q.done ≡ ds → GoesQueue w q (take_front q ds)
+  taken_queue q [] same = stays w q
+  taken_queue q (b ∷ rest) same =
+      record { side = refl; job = refl; streams = λ _ e. e; queued = omega arith; retired = omega arith; filled = (taken_goes q (b ∷ rest) same).done }
 
   taken_ready : (q : QueueState) (ds : List Buffer) → (take_front q ds).ready ≡ q.ready
   taken_ready q [] = refl
@@ -175,7 +176,7 @@ module _ (formats : FormatPair) (p : PairState) (reference : Option CodecReferen
   pub dqbuf_effect : (side : Side) → IsEffect formats reference job p (pair_taken p side)
   dqbuf_effect Out =
       record {
-        goes = record { out = taken_queue p.out p.out.done; cap = stays w p.cap; phase = λ _ e. e };
+        goes = record { out = taken_queue p.out p.out.done refl; cap = stays w p.cap; phase = λ _ e. e };
         fine = record { whole = subst (AreWhole formats.out.size) (sym (taken_ready p.out p.out.done)) inv.whole; filled = subst AreFilled (sym (taken_ready p.out p.out.done)) filled; long = inv.long };
         supplied = λ n. subst (λ (k : ℕ). IsSupplied formats.out k reference) (sym (taken_count p.out p.out.done refl)) (here.supplied n);
       }
@@ -187,7 +188,7 @@ module _ (formats : FormatPair) (p : PairState) (reference : Option CodecReferen
       record {
         goes = record {
           out = subst (GoesQueue w p.out) (sym same_out) (stays w p.out);
-          cap = subst (GoesQueue w p.cap) (sym same_cap) (taken_queue p.cap p.cap.done);
+          cap = subst (GoesQueue w p.cap) (sym same_cap) (taken_queue p.cap p.cap.done refl);
           phase = λ _ e. ap (λ (x : PairState). x.phase) (last_phase q p.phase (is_empty q.cap.done) e) ∙ e;
         };
         fine = record {
@@ -206,7 +207,7 @@ module _ (formats : FormatPair) (p : PairState) (reference : Option CodecReferen
 
   off_queue : (q : QueueState) → job ≡ None → GoesQueue w q (streamoff_after q)
   off_queue q e =
-      record { side = refl; job = refl; streams = λ t. absurd (false≢true (sym (ap is_some e) ∙ t)); queued = omega arith; retired = omega arith }
+      record { side = refl; job = refl; streams = λ t. absurd (false≢true (sym (ap is_some e) ∙ t)); queued = omega arith; retired = omega arith; filled = λ h. refl }
 
   off_supplied : (new : Option CodecReference) → ((n : ℕ) → IsSupplied formats.out n reference → IsSupplied formats.out n new) → job ≡ None → IsSupplied formats.out (buffer_count (streamoff_after p.out)) new
   off_supplied new h e =
@@ -253,7 +254,7 @@ module _ (formats : FormatPair) (p : PairState) (reference : Option CodecReferen
 
   fresh_queue : (q : QueueState) (count size : ℕ) → q.job ≡ [] → GoesQueue w q (reqbufs_after q count size)
   fresh_queue q count size e =
-      record { side = refl; job = sym e; streams = λ _ h. h; queued = omega arith; retired = omega arith }
+      record { side = refl; job = sym e; streams = λ _ h. h; queued = omega arith; retired = omega arith; filled = λ h. refl }
 
   pub dests_effect : (count size : ℕ) → p.cap.streams ≡ false → IsEffect formats reference job p (with_queue_at p Cap (reqbufs_after p.cap count size))
   dests_effect count size e =
@@ -284,7 +285,7 @@ module _ (formats : FormatPair) (p : PairState) (reference : Option CodecReferen
 
   more_queue : (q : QueueState) (count size : ℕ) → GoesQueue w q (create_after q count size)
   more_queue q count size =
-      record { side = refl; job = refl; streams = λ _ h. h; queued = omega arith; retired = omega arith }
+      record { side = refl; job = refl; streams = λ _ h. h; queued = omega arith; retired = omega arith; filled = λ h. h }
 
   pub more_effect : (side : Side) (count size : ℕ) → (side ≡ Out → 0 < buffer_count p.out) → IsEffect formats reference job p (with_queue_at p side (create_after (queue_at p side) count size))
   more_effect Out count size some =

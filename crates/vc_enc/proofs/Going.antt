@@ -30,6 +30,7 @@ pub record GoesQueue (working : Bool) (q r : QueueState) : Type 0 where
   pub streams : working ≡ true → q.streams ≡ true → r.streams ≡ true
   pub queued : r.next_ordinal ≤ q.next_ordinal + 1
   pub retired : r.next_seq ≤ q.next_seq
+  pub filled : AreFilled q.done → AreFilled r.done
 
 -- what a call leaves of the pair
 pub record Goes (working : Bool) (p q : PairState) : Type 0 where
@@ -45,7 +46,7 @@ pub record AreFine (formats : FormatPair) (p : PairState) : Type 0 where
 
 pub stays : (working : Bool) (q : QueueState) → GoesQueue working q q
 stays working q =
-    record { side = refl; job = refl; streams = λ w e. e; queued = omega arith; retired = omega arith }
+    record { side = refl; job = refl; streams = λ w e. e; queued = omega arith; retired = omega arith; filled = λ h. h }
 
 pub all_stays : (working : Bool) (p : PairState) → Goes working p p
 all_stays working p = record { out = stays working p.out; cap = stays working p.cap; phase = λ w e. e }
@@ -138,17 +139,20 @@ module _ (formats : FormatPair) (rates : RunRates) (p q : PairState) (events : E
           out_side = ap (λ (x : QueueState). x.side) t.out ∙ (h.goes.out.side ∙ kept.out_side);
           cap_side = t.side ∙ (h.goes.cap.side ∙ kept.cap_side);
           filled = subst (λ (x : QueueState). AreFilled x.ready) (sym t.out) h.fine.filled;
+          job_filled = subst (λ (x : QueueState). AreFilled x.job) (sym t.out) (subst AreFilled (sym h.goes.out.job) kept.job_filled);
+          out_filled = subst (λ (x : QueueState). AreFilled x.done) (sym t.out) (h.goes.out.filled kept.out_filled);
+          cap_filled = t.filled (h.goes.cap.filled kept.cap_filled);
           out_idle = λ e. (idle e).0;
           cap_idle = λ e. (idle e).1;
         };
         counted = λ bound n.
-          let a : (pair_settled q).out.next_ordinal ≡ q.out.next_ordinal = ap (λ (x : QueueState). x.next_ordinal) t.out in
-          let b : (pair_settled q).out.next_seq ≡ q.out.next_seq = ap (λ (x : QueueState). x.next_seq) t.out in
-          record {
-            out_queued = omega (arith, a, h.goes.out.queued, n.out_queued);
-            cap_queued = omega (arith, t.queued, h.goes.cap.queued, n.cap_queued);
-            out_done = omega (arith, b, h.goes.out.retired, n.out_done);
-            cap_done = omega (arith, t.retired, h.goes.cap.retired, n.cap_done);
-            raised = omega (arith, events_count q events, n.raised);
-          };
+            let a : (pair_settled q).out.next_ordinal ≡ q.out.next_ordinal = ap (λ (x : QueueState). x.next_ordinal) t.out in
+            let b : (pair_settled q).out.next_seq ≡ q.out.next_seq = ap (λ (x : QueueState). x.next_seq) t.out in
+            record {
+              out_queued = omega (arith, a, h.goes.out.queued, n.out_queued);
+              cap_queued = omega (arith, t.queued, h.goes.cap.queued, n.cap_queued);
+              out_done = omega (arith, b, h.goes.out.retired, n.out_done);
+              cap_done = omega (arith, t.retired, h.goes.cap.retired, n.cap_done);
+              raised = omega (arith, events_count q events, n.raised);
+            };
       }

@@ -1,8 +1,8 @@
 -- QBuf and DqBuf of an encoder context.
-use Rattle.std.proofs.Common.{ℕ, ◌≡◌, ◌<◌, ◌≤◌, ◌+◌, ◌^◌, Bool, true, false, cond, not, ◌&&◌, ◌==◌, nat_lt, Option, Some, None, Result, List, [], ◌∷◌, ◌++◌, take, refl, sym, ap, ◌∙◌, subst}
+use Rattle.std.proofs.Common.{ℕ, ◌≡◌, ◌<◌, ◌≤◌, ◌+◌, ◌^◌, Bool, true, false, cond, not, ◌&&◌, ◌==◌, nat_lt, leb, Option, Some, None, Result, List, [], ◌∷◌, ◌++◌, take, refl, sym, ap, ◌∙◌, subst, arith}
 use Rattle.std.specs.Prelude.{is_none, is_some}
 use Rattle.std.specs.List.{filter}
-use Rattle.std.proofs.lemmas.Bool.{false≢true}
+use Rattle.std.proofs.lemmas.Bool.{false≢true, and_parts, leb-true}
 use Rattle.vc_base.specs.declared.Side.{Side}
 use Rattle.vc_base.specs.declared.Side.TheVariants.{Out, Cap}
 use Rattle.vc_base.specs.declared.Stamp.{Stamp}
@@ -23,7 +23,7 @@ use Rattle.vc_work.specs.References.{CodecReference}
 use Rattle.vc_pair.specs.Pairs.{PairState, queue_at, with_queue_at, pair_settled, pair_taken, is_ended_at, IsSettled}
 use Rattle.vc_pair.specs.Rows.{JobsAgree}
 use Rattle.vc_pair.proofs.Rows.{same_taken}
-use Rattle.vc_context.specs.Contexts.{Gives, IsKept, IsStep, told_of, taken_or_blocked, refused_or_blocked}
+use Rattle.vc_context.specs.Contexts.{AreFilled, Gives, IsKept, IsStep, told_of, taken_or_blocked, refused_or_blocked}
 use Rattle.vc_context.specs.Payloads.{Moves, handed_over, front_bytes}
 use Rattle.vc_enc.specs.declared.InJob.{InJob}
 use Rattle.vc_enc.specs.Encoders.{encoder_state, events_settled, IsEncoder, is_part}
@@ -172,11 +172,17 @@ module _ (formats : FormatPair) (rates : RunRates) (p : PairState) (events : Eve
   front_at Out = refl
   front_at Cap = refl
 
+  done_filled : (side : Side) → AreFilled (queue_at p side).done
+  done_filled Out = k.out_filled
+  done_filled Cap = k.cap_filled
+
   moved_cases : (side : Side) (block s : Bool) (o : Option Errno) (ds : List Buffer) (old new : HoldState) → refuse_if (not s) Inval (refuse_if (is_ended_at p side) Pipe (refuse_if (is_empty ds) Again None)) ≡ o → (queue_at p side).done ≡ ds → HandsBack o side ds old new → Moves (Some here) (DqBuf side block) (taken_or_blocked block (answer_of o (front_taken ds))) old new
   moved_cases side block s (Some e) ds old new h d m = still_held here side block block e old new m
   moved_cases side block s None [] old new h d m = absurd (none_done s (is_ended_at p side) h)
   moved_cases side block s None (b ∷ rest) old new h d m =
-      record { payload = m.0; moved = m.1; begins = m.3 ∙ sym (ap front_bytes (front_at side ∙ d)) }
+      let fine : leb b.used b.size ≡ true = (and_parts (leb b.used b.size) _ (subst AreFilled d (done_filled side))).0 in
+      let room : b.used ≤ b.size = leb-true b.used b.size fine in
+      record { payload = m.0; moved = m.1; room = omega (arith, m.2); begins = m.3 ∙ sym (ap front_bytes (front_at side ∙ d)) }
 
   pub dqbuf_moves : (side : Side) (block : Bool) (result : Result Reply Errno) (reply : Reply) (old new : HoldState) → let o : Option Errno = dqbuf_refusal (queue_at p side) (is_ended_at p side) in result ≡ answer_of o (front_taken (queue_at p side).done) → reply ≡ taken_or_blocked block result → HandsBack o side (queue_at p side).done old new → Moves (Some c) (DqBuf side block) reply old new
   dqbuf_moves side block result reply old new er et m =

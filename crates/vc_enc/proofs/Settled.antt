@@ -7,6 +7,8 @@ use Rattle.vc_base.specs.Events.{EventState, raise_after, is_subscribed, eos_eve
 use Rattle.vc_model.specs.Context.{Cause, drain, change, PhaseState, run, owe, last, stopped, is_run, is_drained}
 use Rattle.vc_model.specs.Sound.{AreLong}
 use Rattle.vc_pair.specs.Pairs.{PairState, owes_last, owing, last_given, given, pair_settled, raises_end}
+use Rattle.vc_context.specs.Contexts.{AreFilled}
+use Rattle.vc_context.proofs.Going.{retired_goes}
 use Rattle.vc_enc.specs.Encoders.{end_raised, events_settled}
 
 -- What settling leaves as it is: all but the phase, and the front of CAPTURE's ready.
@@ -19,10 +21,11 @@ pub record Settles (p q : PairState) : Type 0 where
   pub retired : q.cap.next_seq ≤ p.cap.next_seq + 1
   pub idle : p.cap.job ≡ [] → q.cap.job ≡ []
   pub long : (size : ℕ) → AreLong size p.cap.ready → AreLong size q.cap.ready
+  pub filled : AreFilled p.cap.done → AreFilled q.cap.done
 
 nothing : (p : PairState) → Settles p p
 nothing p =
-    record { out = refl; mark = refl; side = refl; streams = refl; queued = refl; retired = omega arith; idle = λ e. e; long = λ size h. h }
+    record { out = refl; mark = refl; side = refl; streams = refl; queued = refl; retired = omega arith; idle = λ e. e; long = λ size h. h; filled = λ h. h }
 
 given_last : (p : PairState) (cause : Cause) (ready : List Buffer) → p.cap.ready ≡ ready → Settles p (last_given p cause ready)
 given_last p cause [] e = nothing p
@@ -40,6 +43,7 @@ given_last p cause (b ∷ rest) e =
       retired = omega (arith, n);
       idle = λ h. ap (λ (x : QueueState). x.job) same;
       long = λ size h. subst (λ (x : QueueState). AreLong size x.ready) (sym same) (and_parts (leb size b.size) _ (subst (AreLong size) e h)).1;
+      filled = λ h. subst (λ (x : QueueState). AreFilled x.done) (sym same) ((retired_goes lent 0 [] last_flag zero_stamp (omega arith)).done h);
     }
 
 given_settles : (p : PairState) (phase : PhaseState) → Settles p (given p phase)
@@ -51,7 +55,7 @@ given_settles p (stopped cause) = nothing p
 owing_settles : (p : PairState) (b : Bool) (phase : PhaseState) → Settles p (given (cond b (record p { phase = owe drain }) p) phase)
 owing_settles p true phase =
     let s : Settles (record p { phase = owe drain }) (given (record p { phase = owe drain }) phase) = given_settles (record p { phase = owe drain }) phase in
-    record { out = s.out; mark = s.mark; side = s.side; streams = s.streams; queued = s.queued; retired = s.retired; idle = s.idle; long = s.long }
+    record { out = s.out; mark = s.mark; side = s.side; streams = s.streams; queued = s.queued; retired = s.retired; idle = s.idle; long = s.long; filled = s.filled }
 owing_settles p false phase = given_settles p phase
 
 pub settles : (p : PairState) → Settles p (pair_settled p)

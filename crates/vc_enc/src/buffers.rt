@@ -1,60 +1,25 @@
 //! Buffers: VIDIOC_REQBUFS, VIDIOC_CREATE_BUFS, VIDIOC_QUERYBUF, VIDIOC_QBUF and VIDIOC_DQBUF.
 
 ghost use Rattle.std.specs.Prelude.{◌≡◌, Some, None, Option, IfOk};
-ghost use Rattle.std.specs.Option.{option_map};
 ghost use Rattle.vc_base.specs.declared.Side.TheVariants.{Out, Cap};
 ghost use Rattle.vc_base.specs.declared.Call.TheVariants.{ReqBufs, CreateBufs, QBuf, DqBuf};
-ghost use Rattle.vc_base.specs.declared.Reply.TheVariants.{Refused};
-ghost use Rattle.vc_base.specs.Buffers.{querybuf_reply, reqbufs_refusal, create_refusal, buffer_count};
+ghost use Rattle.vc_base.specs.Buffers.{querybuf_reply, buffer_count};
 ghost use Rattle.vc_model.specs.Context.{queue_of};
 ghost use Rattle.vc_model.specs.Answer.{query_answer, reqbufs_answer, create_answer, qbuf_answer, dqbuf_answer};
 ghost use Rattle.vc_context.specs.Contexts.{HasRoom, IsKept, IsStep, Gives, GivesWithMemory};
 ghost use Rattle.vc_context.specs.Payloads.{FitsContext, Moves, handed_over};
-ghost use Rattle.vc_queue.specs.Growing.{cannot_grow};
 ghost use Rattle.vc_enc.specs.Encoders.{new_reference, is_part, HasSources};
 
 use crate::Encoder;
 use crate::formats::format_of;
-use crate::replies::{counted, created, refused, taken_or_blocked, told, told_or_refused};
+use crate::replies::refused;
 use crate::settling::settle;
 use std::alloc::Global;
 use vc_base::{Errno, NoMemory, Reply, Side, Stamp};
+use vc_context::refusals::create_refusal;
+use vc_context::replies::{counted, created, taken_or_blocked, told, told_or_refused};
 use vc_queue::hold::Hold;
-use vc_queue::queue::Queue;
 use vc_work::Reference;
-
-/// The length of the longest buffer.
-const LONGEST_BUFFER: u32 = 17_694_764;
-
-/// The most buffers of a queue.
-const MOST_BUFFERS: u32 = 32;
-
-/// What ReqBufs answers before memory is sought.
-pub(crate) fn reqbufs_refusal(queue: &Queue) -> Option<Reply>
-    ensures { result ≡ option_map Refused (reqbufs_refusal queue.now) }
-{
-    if queue.is_streaming() {
-        return Some(refused(Errno::Busy));
-    }
-    None
-}
-
-/// Whether a queue of so many buffers cannot get `count` more of that length.
-fn cannot_grow(buffers: u32, count: u32, length: u32) -> bool
-    ensures { result ≡ cannot_grow buffers count length }
-{
-    length < 1 || LONGEST_BUFFER < length || (0 < count && buffers == MOST_BUFFERS)
-}
-
-/// What CreateBufs answers before memory is sought.
-pub(crate) fn create_refusal(queue: &Queue, count: u32, length: u32) -> Option<Reply>
-    ensures { result ≡ option_map Refused (create_refusal queue.now count length) }
-{
-    if cannot_grow(queue.buffers(), count, length) {
-        return Some(refused(Errno::Inval));
-    }
-    None
-}
 
 /// The reference that so many new OUTPUT buffers need, for pictures of that size.
 fn new_reference(alloc: Global, count: u32, size: u32) -> Result<Option<Reference>, NoMemory>
@@ -186,8 +151,8 @@ impl Encoder {
         ensures moves { Moves (Some self.old) (CreateBufs Out count length) result hold.old hold.new }
         ensures fit { FitsContext self.new hold.new }
     {
-        if cannot_grow(0, count, length) {
-            return refused(Errno::Inval);
+        if let Some(reply) = create_refusal(self.pair.queue(Side::Out), count, length) {
+            return reply;
         }
         let Ok(reference) = new_reference(alloc, count, self.formats.out.size) else {
             return refused(Errno::NoMem);

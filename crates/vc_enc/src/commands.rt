@@ -6,9 +6,10 @@ ghost use Rattle.vc_context.specs.Contexts.{HasRoom, IsKept};
 ghost use Rattle.vc_enc.specs.Serving.{Serves};
 
 use crate::Encoder;
-use crate::replies::{refused, told};
+use crate::replies::refused;
 use crate::settling::settle;
 use vc_base::{Errno, Reply};
+use vc_context::replies::told;
 
 /// V4L2_ENC_CMD_START.
 const START: u32 = 0;

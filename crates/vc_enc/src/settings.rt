@@ -7,8 +7,9 @@ ghost use Rattle.vc_context.specs.Contexts.{Gives, IsKept};
 ghost use Rattle.vc_enc.specs.Serving.{Serves};
 
 use crate::Encoder;
-use crate::replies::{taken_or_blocked, told, valued};
+use crate::replies::valued;
 use vc_base::{Kind, Reply, Side};
+use vc_context::replies::{taken_or_blocked, told};
 use vc_pair::Phase;
 
 impl Encoder {

@@ -10,9 +10,9 @@ ghost use Rattle.vc_enc.specs.Serving.{Serves};
 
 use crate::Encoder;
 use crate::formats::format_of;
-use crate::replies::told;
 use crate::settling::settle;
 use vc_base::{Reply, Side};
+use vc_context::replies::told;
 use vc_pair::Pair;
 use vc_queue::hold::Hold;
 use vc_work::Reference;
