@@ -1,15 +1,11 @@
 -- The answers of an encoder context, call by call.
-use Rattle.std.proofs.Common.{ℕ, ◌≡◌, ◌<◌, ◌≤◌, ◌+◌, ◌^◌, Bool, true, false, cond, not, ◌&&◌, ◌==◌, Option, Some, None, Result, List, [], ◌∷◌, ◌++◌, refl, sym, ap, ◌∙◌, subst, arith}
-use Rattle.std.specs.Prelude.{is_none, is_some, min}
-use Rattle.std.proofs.lemmas.Bool.{false≢true}
+use Rattle.std.proofs.Common.{ℕ, ◌≡◌, ◌<◌, ◌^◌, Bool, true, false, cond, not, Option, Some, None, Result, refl, sym, ap, ◌∙◌, subst, arith}
 use Rattle.vc_base.specs.declared.Side.{Side}
 use Rattle.vc_base.specs.declared.Side.TheVariants.{Out, Cap}
-use Rattle.vc_base.specs.declared.Stamp.{Stamp}
 use Rattle.vc_base.specs.declared.Errno.{Errno}
-use Rattle.vc_base.specs.declared.Errno.TheVariants.{Inval, Busy}
 use Rattle.vc_base.specs.declared.Reply.{Reply}
-use Rattle.vc_base.specs.declared.Reply.TheVariants.{Done, Refused, Count, Created}
-use Rattle.vc_base.specs.Buffers.{Buffer, QueueState, streamon_refusal, streamon_after}
+use Rattle.vc_base.specs.declared.Reply.TheVariants.{Done}
+use Rattle.vc_base.specs.Buffers.{QueueState, streamon_refusal, streamon_after}
 use Rattle.vc_base.specs.Events.{EventState}
 use Rattle.vc_defs.specs.Encoder.{RunRates}
 use Rattle.vc_model.specs.Formats.{FormatPair}
@@ -22,14 +18,14 @@ use Rattle.vc_pair.specs.Pairs.{PairState, queue_at, with_queue_at, pair_settled
 use Rattle.vc_pair.specs.Rows.{SameCommands, AnswersWith, ended_if, with_pair, told}
 use Rattle.vc_pair.proofs.Keeping.{fits_settled}
 use Rattle.vc_pair.proofs.Rows.{same_commands}
-use Rattle.vc_context.specs.Contexts.{Gives, GivesWithMemory, IsKept, IsStep, told_of}
+use Rattle.vc_context.specs.Contexts.{Gives, IsKept, IsStep, told_of}
 use Rattle.vc_context.specs.Payloads.{FitsContext}
 use Rattle.vc_enc.specs.declared.InJob.{InJob}
 use Rattle.vc_enc.specs.Encoders.{encoder_state, events_settled, end_raised, IsEncoder}
 use Rattle.vc_enc.specs.Serving.{Serves}
 use Rattle.vc_enc.proofs.Going.{IsEffect, effect_after, no_effect, keeps, agrees, steps}
 use Rattle.vc_enc.proofs.Effects.{on_effect, stop_effect, start_effect}
-use Rattle.vc_enc.proofs.Serving.{gives, gives_memory, settled_is, settled_same}
+use Rattle.vc_enc.proofs.Serving.{gives}
 
 -- a queue that is refused, inside its pair
 pub after_inside : (p : PairState) (side : Side) (o : Option Errno) (r : QueueState) → with_queue_at p side (after_of o (queue_at p side) r) ≡ after_of o p (with_queue_at p side r)

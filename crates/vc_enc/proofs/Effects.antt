@@ -1,28 +1,26 @@
 -- What each call makes of the pair of an encoder context, where it is not refused.
-use Rattle.std.proofs.Common.{ℕ, zero, suc, ◌≡◌, ◌<◌, ◌≤◌, ◌+◌, ltb, leb, eqb, Bool, true, false, cond, not, ◌&&◌, ◌||◌, ◌==◌, Option, Some, None, List, [], ◌∷◌, ◌++◌, map, length, refl, sym, ap, ◌∙◌, subst, arith, length-append}
+use Rattle.std.proofs.Common.{ℕ, zero, suc, ◌≡◌, ◌<◌, ◌≤◌, ◌+◌, ltb, leb, Bool, true, false, cond, not, ◌==◌, Option, Some, None, List, [], ◌∷◌, ◌++◌, map, length, refl, sym, ap, ◌∙◌, subst, arith, length-append}
 use Rattle.std.proofs.lemmas.List.{length-map}
-use Rattle.std.specs.Prelude.{is_none, is_some, nat_lt, nat_le, min}
-use Rattle.std.specs.List.{list_all, filter}
+use Rattle.std.specs.Prelude.{is_some, nat_lt, nat_le, min}
+use Rattle.std.specs.List.{list_all}
 use Rattle.std.proofs.lemmas.Bool.{false≢true, and_parts, and_from, not-false, ltb-true, ltb-false}
 use Rattle.vc_base.specs.declared.Side.{Side}
 use Rattle.vc_base.specs.declared.Side.TheVariants.{Out, Cap}
 use Rattle.vc_base.specs.declared.Stamp.{Stamp}
-use Rattle.vc_base.specs.declared.Errno.{Errno}
-use Rattle.vc_base.specs.declared.Errno.TheVariants.{Inval, Busy}
-use Rattle.vc_base.specs.declared.Format.{Format}
-use Rattle.vc_base.specs.Buffers.{Buffer, QueueState, is_empty, buffer_count, refuse_if, streamon_after, with_index, held_refusal, qbuf_refusal, qbuf_after, queue_held, queued_buffer, take_front, dqbuf_after, held_again, streamoff_after, reqbufs_after, create_after, new_buffers, created, most_buffers}
+use Rattle.vc_base.specs.declared.Errno.TheVariants.{Inval}
+use Rattle.vc_base.specs.Buffers.{Buffer, QueueState, is_empty, buffer_count, refuse_if, streamon_after, with_index, held_refusal, qbuf_refusal, qbuf_after, queue_held, queued_buffer, take_front, dqbuf_after, held_again, streamoff_after, reqbufs_after, create_after, new_buffers, created}
 use Rattle.vc_defs.specs.Encoder.{fresh_encoder}
 use Rattle.vc_model.specs.Formats.{FormatPair}
-use Rattle.vc_model.specs.Context.{Context, Cause, drain, change, PhaseState, run, owe, last, stopped, format_of}
-use Rattle.vc_model.specs.Answer.{without_drain_stop, is_stopped_by_drain, mark_after_restart}
+use Rattle.vc_model.specs.Context.{drain, change, PhaseState, run, owe, last, stopped}
+use Rattle.vc_model.specs.Answer.{is_stopped_by_drain, mark_after_restart}
 use Rattle.vc_model.specs.Sound.{AreLong}
 use Rattle.vc_work.specs.References.{CodecReference}
 use Rattle.vc_pair.specs.Pairs.{PairState, queue_at, with_queue_at, pair_at_last, pair_taken, pair_marked, pair_started, pair_off, both_streaming}
 use Rattle.vc_context.specs.Contexts.{AreFilled}
 use Rattle.vc_context.proofs.Going.{taken_goes}
 use Rattle.vc_enc.specs.declared.InJob.{InJob}
-use Rattle.vc_enc.specs.Encoders.{AreWhole, IsSupplied, KnowsItsJob, IsEncoder, is_part, new_reference, IsInJob}
-use Rattle.vc_enc.proofs.Going.{GoesQueue, Goes, AreFine, IsEffect, stays, all_stays, no_effect, still_supplied, supplied_here}
+use Rattle.vc_enc.specs.Encoders.{AreWhole, IsSupplied, KnowsItsJob, IsEncoder, is_part, new_reference}
+use Rattle.vc_enc.proofs.Going.{GoesQueue, IsEffect, stays, no_effect, still_supplied}
 
 -- lists
 

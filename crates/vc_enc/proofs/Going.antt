@@ -1,21 +1,18 @@
 -- What a call makes of the pair of an encoder context, before it settles.
-use Rattle.std.proofs.Common.{ℕ, ◌≡◌, ◌<◌, ◌≤◌, ◌+◌, ltb, leb, Bool, true, false, cond, not, ◌&&◌, ◌==◌, Option, Some, None, List, [], ◌∷◌, ◌++◌, map, length, refl, sym, ap, ◌∙◌, subst, arith}
-use Rattle.std.specs.Prelude.{is_none, is_some, nat_lt, nat_le}
-use Rattle.std.proofs.lemmas.Bool.{false≢true, and_parts, and_from}
-use Rattle.vc_base.specs.declared.Kind.TheVariants.{Enc}
-use Rattle.vc_base.specs.declared.Side.{Side}
-use Rattle.vc_base.specs.declared.Side.TheVariants.{Out, Cap}
+use Rattle.std.proofs.Common.{ℕ, ◌≡◌, ◌<◌, ◌≤◌, ◌+◌, Bool, true, false, ◌&&◌, Option, Some, None, List, [], ◌∷◌, map, length, refl, sym, ap, ◌∙◌, subst, arith}
+use Rattle.std.specs.Prelude.{is_none, is_some}
 use Rattle.vc_base.specs.declared.Errno.{Errno}
 use Rattle.vc_base.specs.declared.Format.{Format}
 use Rattle.vc_base.specs.Buffers.{Buffer, QueueState, is_empty, buffer_count}
 use Rattle.vc_base.specs.Events.{EventState}
-use Rattle.vc_defs.specs.Encoder.{RunRates}
+use Rattle.vc_defs.specs.Encoder.{RunRates, fresh_encoder}
 use Rattle.vc_model.specs.Formats.{FormatPair}
-use Rattle.vc_model.specs.Context.{Context, PhaseState, run}
+use Rattle.vc_model.specs.Context.{run}
 use Rattle.vc_model.specs.Sound.{AreLong}
 use Rattle.vc_queue.specs.Answers.{after_of}
 use Rattle.vc_work.specs.References.{CodecReference}
-use Rattle.vc_pair.specs.Pairs.{PairState, pair_settled, IsSettled}
+use Rattle.vc_work.specs.Runs.{coder_state}
+use Rattle.vc_pair.specs.Pairs.{PairState, pair_settled}
 use Rattle.vc_pair.specs.Rows.{JobsAgree}
 use Rattle.vc_pair.proofs.Settling.{settled_by}
 use Rattle.vc_context.specs.Contexts.{AreFilled, IsKept, IsStep}
@@ -76,7 +73,7 @@ known_at format p q old new (Some job) g k s =
     let same : pair_settled q ≡ q = settled_at_work q (g.phase refl k.0) (has_one q.out.job job.source there.one) in
     subst (λ (x : PairState). KnowsItsJob format x new (Some job)) (sym same) (g.phase refl k.0, there, in_job p.cap q.cap job.dest g.cap k.2)
 
-agree_at : (format : Format) (p q : PairState) (reference : Option CodecReference) (job : Option InJob) → Goes (is_some job) p q → KnowsItsJob format p reference job → is_none (job_mark job) ≡ (is_empty q.out.job && is_empty q.cap.job)
+pub agree_at : (format : Format) (p q : PairState) (reference : Option CodecReference) (job : Option InJob) → Goes (is_some job) p q → KnowsItsJob format p reference job → is_none (job_mark job) ≡ (is_empty q.out.job && is_empty q.cap.job)
 agree_at format p q reference None g k =
     let a : q.out.job ≡ [] = g.out.job ∙ k.0 in
     let b : q.cap.job ≡ [] = g.cap.job ∙ k.1 in
@@ -87,6 +84,20 @@ agree_at format p q reference (Some job) g k =
 idle_at : (format : Format) (p : PairState) (reference : Option CodecReference) (job : Option InJob) → KnowsItsJob format p reference job → job_mark job ≡ None → (p.out.job ≡ []) × (p.cap.job ≡ [])
 idle_at format p reference None k e = (k.0, k.1)
 idle_at format p reference (Some job) k e = cc
+
+-- before OUTPUT has buffers no job runs, and the codec is to begin anew
+
+no_state : (format : Format) (n : ℕ) (reference : Option CodecReference) → n ≡ 0 → IsSupplied format n reference → coder_state reference ≡ fresh_encoder
+no_state format n None e h = refl
+no_state format n (Some r) e h = absurd (omega (arith, h.0, e))
+
+one_there : (bs : List Buffer) (index : ℕ) → map (λ b. b.index) bs ≡ index ∷ [] → length bs ≡ 0 → ⊥
+one_there [] index e h = cc
+one_there (b ∷ bs) index e h = absurd (omega (arith, h))
+
+pub nothing_yet : (format : Format) (p : PairState) (reference : Option CodecReference) (job : Option InJob) → KnowsItsJob format p reference job → buffer_count p.out ≡ 0 → (job ≡ None) × (coder_state reference ≡ fresh_encoder)
+nothing_yet format p reference None k z = (refl, no_state format (buffer_count p.out) reference z k.2)
+nothing_yet format p reference (Some job) k z = absurd (one_there p.out.job job.source k.1.one (omega arith))
 
 -- What a call makes of the pair, with the reference that it leaves.
 pub record IsEffect (formats : FormatPair) (reference : Option CodecReference) (job : Option InJob) (p q : PairState) : Type 0 where

@@ -1,7 +1,10 @@
+pub mod Answering
 pub mod Calls
+pub mod Claiming
 pub mod Effects
 pub mod Going
 pub mod Queueing
+pub mod Quiet
 pub mod Requesting
 pub mod Serving
 pub mod Settled

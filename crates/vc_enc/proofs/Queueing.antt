@@ -1,6 +1,5 @@
 -- QBuf and DqBuf of an encoder context.
-use Rattle.std.proofs.Common.{ℕ, ◌≡◌, ◌<◌, ◌≤◌, ◌+◌, ◌^◌, Bool, true, false, cond, not, ◌&&◌, ◌==◌, nat_lt, leb, Option, Some, None, Result, List, [], ◌∷◌, ◌++◌, take, refl, sym, ap, ◌∙◌, subst, arith}
-use Rattle.std.specs.Prelude.{is_none, is_some}
+use Rattle.std.proofs.Common.{ℕ, ◌≡◌, ◌<◌, ◌≤◌, ◌+◌, ◌^◌, Bool, true, false, not, ◌==◌, leb, Option, Some, None, Result, List, [], ◌∷◌, ◌++◌, refl, sym, ap, ◌∙◌, subst, arith}
 use Rattle.std.specs.List.{filter}
 use Rattle.std.proofs.lemmas.Bool.{false≢true, and_parts, leb-true}
 use Rattle.vc_base.specs.declared.Side.{Side}
@@ -10,18 +9,17 @@ use Rattle.vc_base.specs.declared.Call.TheVariants.{QBuf, DqBuf}
 use Rattle.vc_base.specs.declared.Errno.{Errno}
 use Rattle.vc_base.specs.declared.Errno.TheVariants.{NoEnt, Again, NoMem, Busy, Inval, NoTty, Pipe}
 use Rattle.vc_base.specs.declared.Reply.{Reply}
-use Rattle.vc_base.specs.declared.Reply.TheVariants.{Done, Refused}
-use Rattle.vc_base.specs.Buffers.{Buffer, QueueState, is_empty, refuse_if, with_index, held_refusal, qbuf_refusal, qbuf_after, queue_held, queued_buffer, dqbuf_refusal, dqbuf_after}
+use Rattle.vc_base.specs.declared.Reply.TheVariants.{Done}
+use Rattle.vc_base.specs.Buffers.{Buffer, QueueState, is_empty, refuse_if, with_index, qbuf_refusal, qbuf_after, queue_held, queued_buffer, dqbuf_refusal, dqbuf_after}
 use Rattle.vc_base.specs.Events.{EventState}
 use Rattle.vc_defs.specs.Encoder.{RunRates}
 use Rattle.vc_model.specs.Formats.{FormatPair}
-use Rattle.vc_model.specs.Context.{Context, format_of, queue_of, with_queue, settle, is_stopped}
-use Rattle.vc_model.specs.Answer.{Answer, answered, unless, qbuf_answer, dqbuf_answer, taken_answer, after_taking, unless_or_block, is_part_of_picture}
+use Rattle.vc_model.specs.Context.{Context, format_of, queue_of, with_queue, settle}
+use Rattle.vc_model.specs.Answer.{Answer, answered, unless, qbuf_answer, dqbuf_answer, taken_answer, after_taking, unless_or_block}
 use Rattle.vc_queue.specs.Answers.{answer_of, after_of, queued_bytes, front_taken, HandsBack}
 use Rattle.vc_queue.specs.Holds.{HoldState, with_payload}
 use Rattle.vc_work.specs.References.{CodecReference}
-use Rattle.vc_pair.specs.Pairs.{PairState, queue_at, with_queue_at, pair_settled, pair_taken, is_ended_at, IsSettled}
-use Rattle.vc_pair.specs.Rows.{JobsAgree}
+use Rattle.vc_pair.specs.Pairs.{PairState, queue_at, with_queue_at, pair_settled, pair_taken, is_ended_at}
 use Rattle.vc_pair.proofs.Rows.{same_taken}
 use Rattle.vc_context.specs.Contexts.{AreFilled, Gives, IsKept, IsStep, told_of, taken_or_blocked, refused_or_blocked}
 use Rattle.vc_context.specs.Payloads.{Moves, handed_over, front_bytes}

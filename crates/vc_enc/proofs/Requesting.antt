@@ -1,20 +1,20 @@
 -- ReqBufs and CreateBufs of an encoder context.
-use Rattle.std.proofs.Common.{ℕ, ◌≡◌, ◌<◌, ◌^◌, Bool, true, false, cond, Option, Some, None, Result, Ok, Err, List, [], ◌∷◌, map, length, nat_lt, refl, sym, ap, ◌∙◌, subst, arith}
-use Rattle.std.specs.Prelude.{is_some, min, OnErr}
+use Rattle.std.proofs.Common.{ℕ, ◌≡◌, ◌<◌, ◌^◌, Bool, true, false, cond, Option, Some, None, Result, Ok, Err, nat_lt, refl, sym, ap, ◌∙◌, subst, arith}
+use Rattle.std.specs.Prelude.{min, OnErr}
 use Rattle.std.proofs.lemmas.Bool.{false≢true}
 use Rattle.vc_base.specs.declared.Kind.TheVariants.{Enc}
 use Rattle.vc_base.specs.declared.Side.{Side}
 use Rattle.vc_base.specs.declared.Side.TheVariants.{Out, Cap}
 use Rattle.vc_base.specs.declared.Errno.{Errno}
-use Rattle.vc_base.specs.declared.Errno.TheVariants.{Busy, NoMem, Inval}
-use Rattle.vc_base.specs.declared.Call.TheVariants.{ReqBufs, CreateBufs}
+use Rattle.vc_base.specs.declared.Errno.TheVariants.{Busy, NoMem}
+use Rattle.vc_base.specs.declared.Call.TheVariants.{CreateBufs}
 use Rattle.vc_base.specs.declared.Reply.{Reply}
 use Rattle.vc_base.specs.declared.Reply.TheVariants.{Refused, Count, Created}
-use Rattle.vc_base.specs.Buffers.{Buffer, QueueState, refuse_if, reqbufs_refusal, reqbufs_after, create_refusal, create_after, created, buffer_count, most_buffers}
+use Rattle.vc_base.specs.Buffers.{QueueState, refuse_if, reqbufs_refusal, reqbufs_after, create_refusal, create_after, created, buffer_count}
 use Rattle.vc_base.specs.Events.{EventState}
 use Rattle.vc_defs.specs.Encoder.{RunRates, EncoderState, fresh_encoder}
 use Rattle.vc_model.specs.Formats.{FormatPair}
-use Rattle.vc_model.specs.Coder.{encoder, reset}
+use Rattle.vc_model.specs.Coder.{encoder}
 use Rattle.vc_model.specs.Context.{Context, settle}
 use Rattle.vc_model.specs.Answer.{Answer, answered, unless, if_found, reqbufs_answer, create_answer, after_new_buffers}
 use Rattle.vc_queue.specs.Answers.{answer_of, after_of}
@@ -23,12 +23,11 @@ use Rattle.vc_queue.specs.Holds.{HoldState}
 use Rattle.vc_work.specs.References.{CodecReference}
 use Rattle.vc_work.specs.Runs.{coder_state}
 use Rattle.vc_pair.specs.Pairs.{PairState, queue_at, with_queue_at, pair_settled}
-use Rattle.vc_pair.specs.Rows.{JobsAgree}
 use Rattle.vc_context.specs.Contexts.{Gives, GivesWithMemory, IsKept, IsStep, told_of}
 use Rattle.vc_context.specs.Payloads.{Moves}
 use Rattle.vc_enc.specs.declared.InJob.{InJob}
-use Rattle.vc_enc.specs.Encoders.{encoder_state, events_settled, IsEncoder, IsSupplied, KnowsItsJob, new_reference, HasSources}
-use Rattle.vc_enc.proofs.Going.{IsEffect, keeps, agrees, steps}
+use Rattle.vc_enc.specs.Encoders.{encoder_state, events_settled, IsEncoder, new_reference, HasSources}
+use Rattle.vc_enc.proofs.Going.{IsEffect, nothing_yet, keeps, agrees, steps}
 use Rattle.vc_enc.proofs.Effects.{dests_effect, sources_effect, more_effect, first_effect, no_job}
 use Rattle.vc_enc.proofs.Serving.{gives_memory, settled_is}
 use Rattle.vc_enc.proofs.Calls.{after_inside, kept_after, step_after, room_after}
@@ -152,18 +151,6 @@ module _ (formats : FormatPair) (rates : RunRates) (p : PairState) (events : Eve
 
   -- CreateBufs on OUTPUT without buffers
 
-  none_before : buffer_count p.out ≡ 0 → (j : Option InJob) → KnowsItsJob formats.out p reference j → (j ≡ None) × (coder_state reference ≡ fresh_encoder)
-  none_before z None k = (refl, no_state (buffer_count p.out) reference z k.2)
-    where
-      no_state : (n : ℕ) (x : Option CodecReference) → n ≡ 0 → IsSupplied formats.out n x → coder_state x ≡ fresh_encoder
-      no_state n None e h = refl
-      no_state n (Some y) e h = absurd (omega (arith, h.0, e))
-  none_before z (Some x) k = absurd (one_there p.out.job x.source k.1.one (omega arith))
-    where
-      one_there : (bs : List Buffer) (index : ℕ) → map (λ b. b.index) bs ≡ index ∷ [] → length bs ≡ 0 → ⊥
-      one_there [] index e h = cc
-      one_there (b ∷ bs) index e h = absurd (omega (arith, h))
-
   module _ (count size got_index got : ℕ) (new : PairState) (none : buffer_count p.out ≡ 0) (a : AnswersWithMemory {A = ℕ × ℕ} (create_refusal p.out count size) (buffer_count p.out, created p.out count) (create_after p.out count size) (Ok (got_index, got)) p.out new.out) (rest : new ≡ record p { out = new.out }) (r : Option CodecReference) (er : r ≡ new_reference count formats.out.size) where
     first_granted : Granted (create_refusal p.out count size) a.found
     first_granted =
@@ -200,7 +187,7 @@ module _ (formats : FormatPair) (rates : RunRates) (p : PairState) (events : Eve
     first_answer : (o : Option Errno) → o ≡ None → Gives (unless here o (answered (encoder_state formats rates first events reference job) (Created (buffer_count p.out) (created p.out count)))) (Created got_index got) (state first (new_reference count formats.out.size))
     first_answer (Some e) f = cc
     first_answer None f =
-        let b = none_before none job inv.known in
+        let b = nothing_yet formats.out p reference job inv.known none in
         record {
           reply = ap (λ (x : ℕ × ℕ). Created x.0 x.1) (ok_value (create_refusal p.out count size) a.found (buffer_count p.out, created p.out count) (got_index, got) (sym a.answer));
           context = ap Some (ap settle (first_codec job b.0 b.1) ∙ settled_is formats rates (new_reference count formats.out.size) job first events (agrees formats rates p first events reference (new_reference count formats.out.size) job inv firsts_effect));

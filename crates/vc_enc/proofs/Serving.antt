@@ -1,9 +1,8 @@
 -- The answers of calls that change the pair and settle.
-use Rattle.std.proofs.Common.{ℕ, ◌≡◌, Bool, true, false, cond, Option, Some, None, Result, refl, sym, ap, ◌∙◌, subst}
+use Rattle.std.proofs.Common.{◌≡◌, Bool, true, false, Option, Some, None, Result, refl, sym, ap, ◌∙◌}
 use Rattle.std.proofs.lemmas.Bool.{false≢true}
 use Rattle.vc_base.specs.declared.Errno.{Errno}
 use Rattle.vc_base.specs.declared.Reply.{Reply}
-use Rattle.vc_base.specs.declared.Reply.TheVariants.{Refused}
 use Rattle.vc_base.specs.Events.{EventState}
 use Rattle.vc_defs.specs.Encoder.{RunRates}
 use Rattle.vc_model.specs.Formats.{FormatPair}
@@ -13,7 +12,7 @@ use Rattle.vc_queue.specs.Answers.{answer_of, after_of}
 use Rattle.vc_queue.specs.Growing.{with_memory}
 use Rattle.vc_work.specs.References.{CodecReference}
 use Rattle.vc_pair.specs.Pairs.{PairState, pair_settled, raises_end, IsSettled}
-use Rattle.vc_pair.specs.Rows.{pair_of, with_pair, ended_if, settled_with, JobsAgree}
+use Rattle.vc_pair.specs.Rows.{with_pair, ended_if, JobsAgree}
 use Rattle.vc_pair.proofs.Rows.{same_settled}
 use Rattle.vc_pair.proofs.Settling.{settled_alone, settled_quiet}
 use Rattle.vc_context.specs.Contexts.{Gives, GivesWithMemory, told_of}

@@ -1,10 +1,9 @@
 -- What settling makes of a pair and of the events.
-use Rattle.std.proofs.Common.{ℕ, ◌≡◌, ◌≤◌, ◌+◌, leb, Bool, true, false, cond, not, ◌&&◌, Option, Some, None, List, [], ◌∷◌, ◌++◌, refl, sym, ap, ◌∙◌, subst, arith}
-use Rattle.std.proofs.lemmas.Bool.{false≢true, and_parts}
-use Rattle.vc_base.specs.declared.Side.{Side}
-use Rattle.vc_base.specs.Buffers.{Buffer, QueueState, is_empty, lend_after, lend_front, retire_after, retire_from, last_flag, zero_stamp}
-use Rattle.vc_base.specs.Events.{EventState, raise_after, is_subscribed, eos_event}
-use Rattle.vc_model.specs.Context.{Cause, drain, change, PhaseState, run, owe, last, stopped, is_run, is_drained}
+use Rattle.std.proofs.Common.{ℕ, ◌≡◌, ◌≤◌, ◌+◌, leb, Bool, true, false, cond, ◌&&◌, List, [], ◌∷◌, refl, sym, ap, ◌∙◌, subst, arith}
+use Rattle.std.proofs.lemmas.Bool.{and_parts}
+use Rattle.vc_base.specs.Buffers.{Buffer, QueueState, is_empty, lend_after, lend_front, retire_after, last_flag, zero_stamp}
+use Rattle.vc_base.specs.Events.{EventState, is_subscribed, eos_event}
+use Rattle.vc_model.specs.Context.{Cause, drain, PhaseState, run, owe, last, stopped, is_run, is_drained}
 use Rattle.vc_model.specs.Sound.{AreLong}
 use Rattle.vc_pair.specs.Pairs.{PairState, owes_last, owing, last_given, given, pair_settled, raises_end}
 use Rattle.vc_context.specs.Contexts.{AreFilled}

@@ -1,5 +1,5 @@
 -- An encoder context (docs/DEVICE.md, "One context"; "Memory-to-Memory Stateful Video Encoder Interface").
-use Rattle.std.specs.Prelude.{ℕ, ◌≡◌, ◌<◌, ◌≤◌, ◌==◌, nat_lt, Bool, true, false, not, if◌then◌else◌, map, Option, Some, None, List, [], ◌∷◌}
+use Rattle.std.specs.Prelude.{ℕ, ◌≡◌, ◌<◌, ◌==◌, nat_lt, Bool, true, false, not, if◌then◌else◌, map, Option, Some, None, List, [], ◌∷◌}
 use Rattle.std.specs.List.{list_all}
 use Rattle.std.specs.Option.{option_map}
 use Rattle.vc_base.specs.declared.Kind.TheVariants.{Enc}
@@ -11,7 +11,7 @@ use Rattle.vc_base.specs.Events.{EventState, raise_after, eos_event}
 use Rattle.vc_defs.specs.Encoder.{RunRates, fresh_encoder}
 use Rattle.vc_model.specs.Formats.{FormatPair}
 use Rattle.vc_model.specs.Coder.{CodecState, no_codec, encoder}
-use Rattle.vc_model.specs.Context.{Context, Running, PhaseState, run}
+use Rattle.vc_model.specs.Context.{Context, Running, run}
 use Rattle.vc_model.specs.Sound.{AreLong}
 use Rattle.vc_model.specs.Standing.{some_job}
 use Rattle.vc_geom.specs.Pairs.{CanStand}

@@ -1,19 +1,29 @@
-//! Jobs: when one is due, what it takes along, and what its end does.
+//! Jobs: when one is due.
 
-ghost use Rattle.std.specs.Prelude.{◌≡◌, Some, is_some};
+ghost use Rattle.std.specs.Prelude.{◌≡◌, ◌&&◌, not, Some, is_some};
+ghost use Rattle.vc_model.specs.Context.{is_run};
 ghost use Rattle.vc_model.specs.Runs.{is_claimable};
-ghost use Rattle.vc_context.specs.Contexts.{has_work};
 
 use crate::Encoder;
 use vc_base::Side;
-use vc_pair::Phase;
-use vc_queue::queue::Queue;
+use vc_context::refusals::has_work;
+use vc_pair::{Pair, Phase};
 
-/// Whether a queue streams and has a ready buffer.
-fn has_work(queue: &Queue) -> bool
-    ensures { result ≡ has_work queue.now }
+/// Whether jobs may run.
+fn may_run(pair: &Pair) -> bool
+    ensures { result ≡ is_run pair.now.phase }
 {
-    queue.is_streaming() && queue.front_ordinal().is_some()
+    match pair.phase() {
+        Phase::Run => true,
+        Phase::Owe | Phase::Last | Phase::Stopped => false,
+    }
+}
+
+/// Whether a job is due: none runs, one may, and both queues have work.
+fn is_due(running: bool, source: bool, dest: bool, may_run: bool) -> bool
+    ensures { result ≡ (not running && ((source && dest) && may_run)) }
+{
+    !running && source && dest && may_run
 }
 
 impl Encoder {
@@ -29,9 +39,9 @@ impl Encoder {
     pub fn ready(&self) -> bool
         ensures { result ≡ is_claimable (Some self.now) }
     {
-        self.job.is_none()
-            && has_work(self.pair.queue(Side::Out))
-            && has_work(self.pair.queue(Side::Cap))
-            && self.pair.phase() == Phase::Run
+        let source = has_work(self.pair.queue(Side::Out));
+        let dest = has_work(self.pair.queue(Side::Cap));
+        let may_run = may_run(&self.pair);
+        is_due(self.job.is_some(), source, dest, may_run)
     }
 }

@@ -8,7 +8,8 @@ ghost use Rattle.std.specs.Prelude.{◌≡◌, ℕ, false, IfOk, Some, [], is_so
 ghost use Rattle.vc_base.specs.declared.Kind.TheVariants.{Enc};
 ghost use Rattle.vc_model.specs.Context.{fresh_context};
 ghost use Rattle.vc_model.specs.Answer.{context_answer};
-ghost use Rattle.vc_context.specs.Contexts.{HasRoom, GivesWithMemory, IsKept, IsStep, is_close};
+ghost use Rattle.vc_model.specs.Core.{unless_memory};
+ghost use Rattle.vc_context.specs.Contexts.{HasRoom, GivesWithMemory, IsKept, IsStep, TakesMemory, is_close};
 ghost use Rattle.vc_context.specs.Payloads.{FitsContext, Moves, handed_over};
 
 mod buffers;
@@ -24,6 +25,8 @@ use crate::replies::refused;
 use std::alloc::Global;
 use std::marker::Model;
 use vc_base::{Call, Errno, Kind, NoMemory, Reply};
+use vc_context::refusals::{create_refusal, reqbufs_refusal};
+use vc_context::replies::no_command;
 use vc_ctrl::Controls;
 use vc_event::Events;
 use vc_geom::{Formats, open_formats};
@@ -93,6 +96,7 @@ impl Encoder {
         ensures moves { Moves (Some self.old) call.now result hold.old hold.new }
         ensures fit { FitsContext self.new hold.new }
     {
+        let _ = &self.pair;
         match *call {
             Call::EnumFmt { side, index } => self.enum_format(side, index),
             Call::GetFmt { side } => self.format(side),
@@ -117,13 +121,31 @@ impl Encoder {
             Call::Subscribe { event } => self.subscribe(event),
             Call::Unsubscribe { event } => self.unsubscribe(event),
             Call::DqEvent { block } => self.dqevent(block),
-            Call::DecCmd { .. } => refused(Errno::NoTty),
+            Call::DecCmd { .. } => no_command(),
             Call::EncCmd { cmd } => self.command(cmd),
             Call::GetCtrl { id } => self.control(id),
             Call::SetCtrl { id, value } => self.set_control(id, value),
             Call::Poll => self.poll(),
             Call::Open { .. } => refused(Errno::Busy),
             Call::Close => Reply::Blocked,
+        }
+    }
+
+    /// What a call that takes memory answers before memory is sought: a refusal, or none where all tests
+    /// pass.
+    pub fn refusal(&self, call: &Call) -> Option<Reply>
+        requires { TakesMemory call.now }
+        ensures { result ≡ unless_memory (context_answer self.now call.now [] false).reply }
+    {
+        let _ = &self.pair;
+        match *call {
+            Call::ReqBufs { side, .. } => reqbufs_refusal(self.pair.queue(side)),
+            Call::CreateBufs {
+                side,
+                count,
+                length,
+            } => create_refusal(self.pair.queue(side), count, length),
+            _ => Some(refused(Errno::Busy)),
         }
     }
 }
