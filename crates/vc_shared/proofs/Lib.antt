@@ -1,0 +1,10 @@
+pub mod Answering
+pub mod Dealing
+pub mod Fitting
+pub mod Logs
+pub mod Memory
+pub mod Moving
+pub mod Resting
+pub mod Seeing
+pub mod Shutting
+pub mod Writing

@@ -1,0 +1,5 @@
+pub mod Calls
+pub mod Handles
+pub mod Histories
+pub mod Making
+pub mod Workers
