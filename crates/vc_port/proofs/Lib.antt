@@ -1,0 +1,4 @@
+pub mod Handing
+pub mod Holding
+pub mod Taking
+pub mod Waiting

@@ -1,0 +1,5 @@
+use Rattle.vc_port.proofs.Holding.{held_is_there}
+use Rattle.vc_port.proofs.laws.held_is_there.Goals as goal
+
+pub returns : goal.returns
+returns c = held_is_there

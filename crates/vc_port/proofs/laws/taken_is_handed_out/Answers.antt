@@ -1,0 +1,5 @@
+use Rattle.vc_port.proofs.Taking.{taken_is_handed_out}
+use Rattle.vc_port.proofs.laws.taken_is_handed_out.Goals as goal
+
+pub returns : goal.returns
+returns c = taken_is_handed_out

@@ -1,0 +1,4 @@
+pub mod Laws
+pub mod Ports
+pub mod Payloads
+pub mod Stations

@@ -1,0 +1,16 @@
+use Rattle.std.proofs.Common.{◌∙◌, inl, inr}
+use Rattle.vc_port.proofs.Waiting.{waits_more}
+use Rattle.vc_wait.proofs.answer_wait.Goals as goal
+
+pub loop-preserved : goal.loop-preserved
+loop-preserved g c =
+    let law = g.met.P.Port in
+    let port = g.P.Port in
+    let i = c.loop.invariant in
+    let blocked = c.in-Blocked.ensures in
+    let paused = c.pause.ensures in (
+      paused.ready,
+      paused.answered ∙ (blocked.answered ∙ i.1),
+      law.follows_on _ _ _ i.2 (law.follows_on _ _ _ blocked.follows paused.follows),
+      waits_more port.calls port.pauses _ _ _ _ (waits_more port.calls port.pauses _ _ _ _ i.3 (inl blocked.calls)) (inr paused.pauses),
+    )

@@ -1,0 +1,4 @@
+pub mod Both
+pub mod Gains
+pub mod Pauses
+pub mod Turns
