@@ -18,7 +18,7 @@ after-lists coder d [] fs = refl
 after-lists coder d (e ∷ es) fs = after-lists coder (device_step coder d e).device es fs
 
 -- where a seat has no entries, the first is another's
-none_first : (seat : Bool) (at : ℕ) (more : List ℕ) → cond seat (at ∷ more) more ≡ [] → (seat ≡ false) × (more ≡ [])
+pub none_first : (seat : Bool) (at : ℕ) (more : List ℕ) → cond seat (at ∷ more) more ≡ [] → (seat ≡ false) × (more ≡ [])
 none_first true at more e = absurd (cc)
 none_first false at more e = (refl, e)
 

@@ -16,8 +16,10 @@ mod job_seat;
 mod notes;
 mod shared;
 mod turns;
+mod worker_seat;
 
 pub use handle::Handle;
 pub use handle_seat::HandleSeat;
 pub use job_seat::JobSeat;
 pub use shared::Shared;
+pub use worker_seat::WorkerSeat;
