@@ -1,0 +1,14 @@
+pub mod Answering
+pub mod Dealing
+pub mod DeviceJobs
+pub mod Fitting
+pub mod Holding
+pub mod KeepingJobs
+pub mod Logs
+pub mod Memory
+pub mod Moving
+pub mod Resting
+pub mod Seeing
+pub mod Shutting
+pub mod Working
+pub mod Writing

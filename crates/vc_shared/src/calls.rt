@@ -1,0 +1,77 @@
+//! A call, and a shut, in a turn of its own.
+ghost use Rattle.std.specs.Prelude.{◌≡◌, ◌≢◌};
+ghost use Rattle.vc_base.specs.declared.Reply.TheVariants.{Blocked};
+ghost use Rattle.vc_core.specs.Payloads.{handed_over};
+ghost use Rattle.vc_shared.specs.Handles.{handle_at, IsSlotSeat};
+ghost use Rattle.vc_shared.specs.Calls.{found_for, AnswersCall, BlocksCall, ShutsDevice};
+
+use crate::held::{Held, Sizes};
+use crate::notes::{HandedOver, note_call, note_shut};
+use crate::turns::enter;
+use std::marker::Brand;
+use std::sync::Wait;
+use vc_base::{Call, Errno, Reply};
+use vc_queue::hold::Hold;
+use vc_turn::{Turn, TurnSeat};
+
+/// Whether memory was found, as the reply says.
+fn found_memory(reply: &Reply) -> bool
+    ensures { result ≡ found_for reply.now }
+{
+    match reply {
+        Reply::Refused {
+            errno: Errno::NoMem,
+        } => false,
+        _ => true,
+    }
+}
+
+// The call with the bytes that it hands over named.
+fn make_with<B: HandedOver, R: Wait>(
+    rt: &R,
+    turn: &Turn<Held>,
+    seat: &mut TurnSeat<Held>,
+    sizes: Sizes,
+    slot: u32,
+    request: &Call,
+    hold: &mut Hold,
+) -> Reply
+    requires own { seat.old.turn ≡ turn.now }
+    requires seat { IsSlotSeat seat.old sizes slot hold.old }
+    requires bytes { B.bytes ≡ handed_over request.now hold.old }
+    ensures lock { seat.new.turn ≡ seat.old.turn }
+    ensures seat { IsSlotSeat seat.new sizes slot hold.new }
+    ensures blocked { result ≡ Blocked → BlocksCall (handle_at seat.old sizes slot hold.old) (handle_at seat.new sizes slot hold.new) request.now }
+    ensures answered { result ≢ Blocked → AnswersCall (handle_at seat.old sizes slot hold.old) (handle_at seat.new sizes slot hold.new) request.now result }
+{
+    let mut core = enter(rt, turn, seat, sizes);
+    let reply = core.call(slot, request, hold);
+    if let Reply::Blocked = reply {
+        turn.put(seat, Held { core, sizes });
+    } else {
+        let found = found_memory(&reply);
+        note_call::<B, Brand>(turn, seat, slot, request, found);
+        turn.put(seat, Held { core, sizes });
+    }
+    reply
+}
+
+/// Makes a call on a slot in a turn of its own. Where it answers Blocked nothing is noted.
+pub(crate) fn make_call<R: Wait>(
+    rt: &R,
+    turn: &Turn<Held>,
+    seat: &mut TurnSeat<Held>,
+    sizes: Sizes,
+    slot: u32,
+    request: &Call,
+    hold: &mut Hold,
+) -> Reply
+    requires own { seat.old.turn ≡ turn.now }
+    requires seat { IsSlotSeat seat.old sizes slot hold.old }
+    ensures lock { seat.new.turn ≡ seat.old.turn }
+    ensures seat { IsSlotSeat seat.new sizes slot hold.new }
+    ensures blocked { result ≡ Blocked → BlocksCall (handle_at seat.old sizes slot hold.old) (handle_at seat.new sizes slot hold.new) request.now }
+    ensures answered { result ≢ Blocked → AnswersCall (handle_at seat.old sizes slot hold.old) (handle_at seat.new sizes slot hold.new) request.now result }
+{
+    make_with::<Brand, R>(rt, turn, seat, sizes, slot, request, hold)
+}
