@@ -16,7 +16,7 @@ use Rattle.vc_model.specs.Answer.{answer, closed_answer}
 use Rattle.vc_model.specs.Solo.{SoloEvent, Called, Answered, solo_step, solo_slot}
 use Rattle.vc_queue.specs.Holds.{HoldState, held_payload, HasRoom, HaveOneLength}
 use Rattle.vc_queue.specs.Cells.{bytes_or_none}
-use Rattle.vc_core.specs.Payloads.{FitsSlot, HoldsNothing, Moves, empty_hold, handed_over}
+use Rattle.vc_context.specs.Payloads.{FitsSlot, HoldsNothing, Moves, empty_hold, handed_over}
 use Rattle.vc_port.specs.Payloads.{slot_after, with_call, IsCallOn, AreKept}
 use Rattle.port_rows.specs.Rows.{refusal_of, found_at, refused_event}
 

@@ -1,7 +1,7 @@
 //! A port with payloads whose slot is never opened, since it finds no memory.
 
 ghost use Rattle.std.specs.Prelude.{◌≡◌, map};
-ghost use Rattle.vc_core.specs.Payloads.{empty_hold};
+ghost use Rattle.vc_context.specs.Payloads.{empty_hold};
 ghost use Rattle.port_rows.specs.Rows.{refusal_of, refused_call, refused_event};
 ghost use Rattle.port_rows.specs.Desks.{IsRefused};
 

@@ -22,7 +22,7 @@ use Rattle.vc_model.proofs.Seating.{answers_are_solo}
 use Rattle.vc_turn.specs.declared.rule.Noted.{Noted}
 use Rattle.vc_turn.specs.Place.{Place}
 use Rattle.vc_queue.specs.Holds.{HoldState}
-use Rattle.vc_core.specs.Payloads.{FitsSlot, Moves, handed_over}
+use Rattle.vc_context.specs.Payloads.{FitsSlot, Moves, handed_over}
 use Rattle.vc_core.specs.Steps.{IsCall}
 use Rattle.vc_shared.specs.declared.held.Sizes.{Sizes}
 use Rattle.vc_shared.specs.Histories.{after, events_of, owner_of, IsLog, StandsForLog}

@@ -16,7 +16,7 @@ use Rattle.vc_model.specs.Standing.{without_data_of, core_slot}
 use Rattle.vc_model.specs.Seats.{is_call_of}
 use Rattle.vc_model.proofs.Isolating.{is_there}
 use Rattle.vc_queue.specs.Holds.{HoldState, Fits}
-use Rattle.vc_core.specs.Payloads.{FitsContext, FitsSlot}
+use Rattle.vc_context.specs.Payloads.{FitsContext, FitsSlot}
 
 -- Queues
 

@@ -10,7 +10,7 @@ use Rattle.vc_queue.specs.Holds.{HoldState}
 use Rattle.vc_queue.specs.Releasing.{AllGoToUser}
 use Rattle.vc_model.specs.Context.{Context, Slot, Running}
 use Rattle.vc_model.specs.Standing.{core_slot, without_data_of}
-use Rattle.vc_core.specs.Payloads.{Moves, HandsOut, handed_out, given_back}
+use Rattle.vc_context.specs.Payloads.{Moves, HandsOut, handed_out, given_back}
 
 out_of : (c : Context) (o : Option Running) (side : Side) → handed_out (Some (without_data_of c o)) side ≡ handed_out (Some c) side
 out_of c None side = refl

@@ -8,7 +8,7 @@ use Rattle.vc_model.specs.Seats.{is_call_of, is_call_event}
 use Rattle.vc_turn.specs.declared.rule.Noted.{Noted}
 use Rattle.vc_turn.specs.History.{places_from, places}
 use Rattle.vc_queue.specs.Holds.{HoldState}
-use Rattle.vc_core.specs.Payloads.{FitsSlot}
+use Rattle.vc_context.specs.Payloads.{FitsSlot}
 use Rattle.vc_shared.specs.Histories.{after, events_of, AreOwn}
 use Rattle.vc_shared.proofs.Logs.{call_is_own, events-append, own_rest, none_added}
 use Rattle.vc_shared.proofs.Fitting.{step_fits}

@@ -13,7 +13,7 @@ use Rattle.vc_turn.specs.declared.rule.Noted.{Noted}
 use Rattle.vc_turn.specs.Place.{Place}
 use Rattle.vc_turn.specs.History.{places}
 use Rattle.vc_queue.specs.Holds.{HoldState}
-use Rattle.vc_core.specs.Payloads.{FitsSlot}
+use Rattle.vc_context.specs.Payloads.{FitsSlot}
 use Rattle.vc_shared.specs.declared.held.Sizes.{Sizes}
 use Rattle.vc_shared.specs.Histories.{after, events_of, owner_of, IsLog, StandsForLog}
 use Rattle.vc_shared.specs.Handles.{handle_at, IsSlotSeat}

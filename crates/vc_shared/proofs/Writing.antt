@@ -8,7 +8,7 @@ use Rattle.vc_model.specs.Context.{Slot}
 use Rattle.vc_model.specs.Devices.{new_device, slot_of}
 use Rattle.vc_model.proofs.Isolating.{closed_at_first}
 use Rattle.vc_queue.specs.Holds.{HoldState, held_payload, with_payload, written_over, Fits, HasRoom, HaveOneLength}
-use Rattle.vc_core.specs.Payloads.{FitsSlot}
+use Rattle.vc_context.specs.Payloads.{FitsSlot}
 
 -- the payloads have the same sizes
 SameSizes : HoldState → HoldState → Type 0

@@ -8,7 +8,7 @@ use Rattle.vc_model.specs.Coder.{the_coder}
 use Rattle.vc_model.specs.Solo.{Called, Answered, solo_step, solo_slot}
 use Rattle.vc_model.specs.Devices.{new_device, slot_of, projection}
 use Rattle.vc_model.specs.Seats.{IsAnswered, IsBlocked, IsShutBy}
-use Rattle.vc_core.specs.Payloads.{Moves, handed_over}
+use Rattle.vc_context.specs.Payloads.{Moves, handed_over}
 use Rattle.vc_shared.specs.Histories.{after}
 use Rattle.vc_shared.specs.Handles.{HandleState}
 

@@ -9,7 +9,7 @@ use Rattle.vc_model.specs.Seats.{Seat, HasItsCalls}
 use Rattle.vc_turn.specs.Place.{Place, made_for}
 use Rattle.vc_turn.specs.History.{places}
 use Rattle.vc_queue.specs.Holds.{HoldState}
-use Rattle.vc_core.specs.Payloads.{FitsSlot, empty_hold}
+use Rattle.vc_context.specs.Payloads.{FitsSlot, empty_hold}
 use Rattle.vc_shared.specs.declared.held.Sizes.{Sizes}
 use Rattle.vc_shared.specs.Histories.{after, events_of, IsLog}
 

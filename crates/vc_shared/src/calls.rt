@@ -1,7 +1,7 @@
 //! A call, and a shut, in a turn of its own.
 ghost use Rattle.std.specs.Prelude.{◌≡◌, ◌≢◌};
 ghost use Rattle.vc_base.specs.declared.Reply.TheVariants.{Blocked};
-ghost use Rattle.vc_core.specs.Payloads.{handed_over};
+ghost use Rattle.vc_context.specs.Payloads.{handed_over};
 ghost use Rattle.vc_shared.specs.Handles.{handle_at, IsSlotSeat};
 ghost use Rattle.vc_shared.specs.Calls.{found_for, AnswersCall, BlocksCall, ShutsDevice};
 

@@ -1,4 +1,4 @@
-use Rattle.vc_core.specs.Payloads.{handed_over}
+use Rattle.vc_context.specs.Payloads.{handed_over}
 use Rattle.vc_shared.proofs.calls.make_call.Given as goal
 
 abbrev pub ghosts-make_with : goal.ghosts-make_with

@@ -1,7 +1,7 @@
 use Rattle.std.proofs.Common.{◌≡◌, sym, ap, ◌∙◌, subst}
 use Rattle.vc_base.specs.Device.{DeviceEvent, call}
 use Rattle.vc_turn.specs.Place.{Place}
-use Rattle.vc_core.specs.Payloads.{handed_over, Moves}
+use Rattle.vc_context.specs.Payloads.{handed_over, Moves}
 use Rattle.vc_core.specs.Steps.{IsCall}
 use Rattle.vc_model.specs.Devices.{slot_of}
 use Rattle.vc_shared.specs.Histories.{StandsForLog}

@@ -1,7 +1,7 @@
 use Rattle.std.proofs.Common.{sym, subst}
 use Rattle.vc_model.specs.Devices.{slot_of}
 use Rattle.vc_turn.specs.Place.{Place}
-use Rattle.vc_core.specs.Payloads.{FitsSlot}
+use Rattle.vc_context.specs.Payloads.{FitsSlot}
 use Rattle.vc_shared.specs.Histories.{after, events_of}
 use Rattle.vc_shared.proofs.Resting.{rests_at_first}
 use Rattle.vc_shared.proofs.Writing.{fits_first}
