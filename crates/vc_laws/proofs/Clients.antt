@@ -1,18 +1,25 @@
 -- Over a run that drops nothing the client gets all pictures or frames of the segment.
 use Rattle.std.proofs.Common.{ℕ, ◌≡◌, Some, None, List, [], ◌∷◌, ◌++◌, map, refl, sym, ap, ◌∙◌}
 use Rattle.std.proofs.lemmas.List.{append-nil}
-use Rattle.std.specs.List.{flat_map}
+use Rattle.std.specs.List.{All, flat_map}
+use Rattle.std.proofs.lemmas.List.Elements.{All-head, All-tail}
+use Rattle.vc_defs.specs.Raw.{raw_of}
+use Rattle.vc_defs.specs.Outputs.{picture_bytes}
+use Rattle.vc_defs.specs.Decoder.{FrameResult, ResultKind, Picture, Damaged, Changed}
 use Rattle.vc_base.specs.declared.Kind.TheVariants.{Enc}
 use Rattle.vc_defs.specs.Encoder.{encoded_bytes}
 use Rattle.vc_model.specs.Coder.{Coder, the_coder}
 use Rattle.vc_model.specs.Context.{Context, Slot}
 use Rattle.vc_model.specs.Solo.{SoloEvent, solo_step, solo_run, solo_slot}
 use Rattle.vc_model.specs.Handed.{handed_out}
-use Rattle.vc_laws.specs.Segments.{EncodedPicture, segment_of}
+use Rattle.vc_laws.specs.Segments.{SegmentResult, EncodedPicture, segment_of}
+use Rattle.vc_laws.specs.FirstFormats.{IsInFirst, DecodersHandOutPictures}
 use Rattle.vc_laws.specs.Following.{sequential_frames}
-use Rattle.vc_laws.specs.Taking.{bytes_of, done_in, IsTakenWhole, handed_in, AllIsHandedOut}
+use Rattle.vc_laws.specs.Taking.{bytes_of, bytes_of_kind, bytes_of_result, done_in, IsTakenWhole, handed_in, AllIsHandedOut}
 use Rattle.vc_laws.proofs.Taking.{handed_in_order, done_is_retired}
 use Rattle.vc_laws.proofs.Encoding.{encoder_follows}
+use Rattle.vc_laws.proofs.Outcomes.{follows}
+use Rattle.vc_laws.proofs.FirstFormats.{pictures_are_in_first}
 use Rattle.vc_laws.proofs.Handing.{pictures_are_handed_out, frames_are_handed_out}
 
 slot_append : (coder : Coder) (s : Slot) (es fs : List SoloEvent) → solo_slot coder s (es ++ fs) ≡ solo_slot coder (solo_slot coder s es) fs
@@ -49,3 +56,22 @@ all_is_handed_out events more d =
       decoders = λ k w. handed_is_retired the_coder events more d w ∙ pictures_are_handed_out (events ++ more) d (ends_there the_coder events more d w) k;
       encoders = λ k w. handed_is_retired the_coder events more d w ∙ (frames_are_handed_out the_coder (events ++ more) d (ends_there the_coder events more d w) k ∙ frames_in_order (events ++ more) d (ends_there the_coder events more d w) k);
     }
+
+-- Pictures in their first formats
+
+first_bytes : (x : SegmentResult) (kind : ResultKind) → IsInFirst x.fourcc kind → bytes_of_kind x.fourcc kind ≡ picture_bytes kind
+first_bytes x (Picture geometry key planes) h = ap (λ f. raw_of f planes) h
+first_bytes x Damaged h = refl
+first_bytes x (Changed geometry) h = refl
+
+all_first_bytes : (xs : List SegmentResult) → All (λ (x : SegmentResult). IsInFirst x.fourcc x.what.kind) xs → flat_map bytes_of_result xs ≡ flat_map (λ (r : FrameResult). picture_bytes r.kind) (map (λ (x : SegmentResult). x.what) xs)
+all_first_bytes [] h = refl
+all_first_bytes (x ∷ xs) h =
+    let P : SegmentResult → Type 0 = λ (y : SegmentResult). IsInFirst y.fourcc y.what.kind in
+    ap (λ l. l ++ flat_map bytes_of_result xs) (first_bytes x x.what.kind (All-head P x xs h)) ∙ ap (λ l. picture_bytes x.what.kind ++ l) (all_first_bytes xs (All-tail P x xs h))
+
+pub decoders_hand_out_pictures : DecodersHandOutPictures
+decoders_hand_out_pictures events more d r k w asked first given =
+    let seg = segment_of the_coder (events ++ more) in
+    let there = ends_there the_coder events more d w in
+    (all_is_handed_out events more d).decoders k w ∙ (all_first_bytes seg.results (pictures_are_in_first (events ++ more) d there k asked) ∙ ap (flat_map (λ (x : FrameResult). picture_bytes x.kind)) ((follows (events ++ more) d r there k first).all given))

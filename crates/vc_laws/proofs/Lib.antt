@@ -3,6 +3,7 @@ pub mod Decoding
 pub mod DoneNow
 pub mod Effects
 pub mod Encoding
+pub mod FirstFormats
 pub mod Framing
 pub mod Halting
 pub mod Handing

@@ -1,4 +1,5 @@
 pub mod Drains
+pub mod FirstFormats
 pub mod Following
 pub mod SegmentRows
 pub mod Segments

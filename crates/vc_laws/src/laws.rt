@@ -3,6 +3,7 @@
 //! interface, in the Linux userspace API documentation.
 
 ghost use Rattle.vc_laws.specs.Drains.{AbortedByOff, AllWentBack, ChangesStop, DrainsAreWhole, DrainsBeginAtStop, DrainsEncodeAll, DrainsGiveAll, EncodesInOrder, FrameAfterChange, MarksStay, NothingAfterLast, ResultsBeforeChange, SameDrainsSameResults, StopsByChange};
+ghost use Rattle.vc_laws.specs.FirstFormats.{DecodersHandOutPictures, PicturesAreInFirst};
 ghost use Rattle.vc_laws.specs.Taking.{AllIsHandedOut, DoneIsRetired, FramesAreHandedOut, HandedInOrder, PicturesAreHandedOut, TakenInOrder};
 ghost use Rattle.vc_laws.specs.Following.{EncoderFollows, Follows, RetiredAreFrames, RetiredAreResults, SegmentsBegin};
 
@@ -115,4 +116,15 @@ pub fn pictures_are_handed_out()
 /// sequential encoder's frames for the pictures that were consumed, in order.
 pub fn all_is_handed_out()
     ensures { AllIsHandedOut }
+{}
+
+/// A client that asked for no format of CAPTURE gets each picture in the first raw format of its layout.
+pub fn pictures_are_in_first()
+    ensures { PicturesAreInFirst }
+{}
+
+/// Over a run of one segment that drops nothing and gave all its results, such a client gets exactly the sequential decoder's
+/// pictures of the bytes consumed.
+pub fn decoders_hand_out_pictures()
+    ensures { DecodersHandOutPictures }
 {}

@@ -1,0 +1,5 @@
+use Rattle.vc_laws.proofs.FirstFormats.{pictures_are_in_first}
+use Rattle.vc_laws.proofs.laws.pictures_are_in_first.Goals as goal
+
+pub returns : goal.returns
+returns c = pictures_are_in_first
