@@ -154,17 +154,17 @@ impl Slot {
         ensures moves { Moves self.old Close result hold.old hold.new }
         ensures fit { FitsSlot self.new hold.new }
     {
-        match self.running() {
-            None => Reply::Refused {
+        let Some(running) = self.running() else {
+            return Reply::Refused {
                 errno: Errno::NoTty,
-            },
-            Some(true) => Reply::Blocked,
-            Some(false) => {
-                *self = Slot::new();
-                *hold = Hold::new();
-                Reply::Done
-            }
+            };
+        };
+        if running {
+            return Reply::Blocked;
         }
+        *self = Slot::new();
+        *hold = Hold::new();
+        Reply::Done
     }
 
     /// Whether a job of the slot runs, where it has a context.
