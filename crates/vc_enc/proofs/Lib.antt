@@ -2,6 +2,7 @@ pub mod Answering
 pub mod Calls
 pub mod Claiming
 pub mod Effects
+pub mod Ending
 pub mod Going
 pub mod Queueing
 pub mod Quiet

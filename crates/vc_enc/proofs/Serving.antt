@@ -20,7 +20,7 @@ use Rattle.vc_enc.specs.declared.InJob.{InJob}
 use Rattle.vc_enc.specs.Encoders.{encoder_state, end_raised, events_settled}
 
 module _ (formats : FormatPair) (rates : RunRates) (reference : Option CodecReference) (job : Option InJob) where
-  ended : (q s : PairState) (events : EventState) (b : Bool) → ended_if b (with_pair (encoder_state formats rates q events reference job) s) ≡ encoder_state formats rates s (end_raised b events) reference job
+  pub ended : (q s : PairState) (events : EventState) (b : Bool) → ended_if b (with_pair (encoder_state formats rates q events reference job) s) ≡ encoder_state formats rates s (end_raised b events) reference job
   ended q s events true = refl
   ended q s events false = refl
 

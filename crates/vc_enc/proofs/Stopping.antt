@@ -34,7 +34,7 @@ anew_supplied format true None n s = s
 anew_supplied format true (Some r) n s = (s.0, (s.1.0, tt))
 anew_supplied format false reference n s = s
 
-anew_state : (reference : Option CodecReference) → coder_state (anew_where true reference) ≡ fresh_encoder
+pub anew_state : (reference : Option CodecReference) → coder_state (anew_where true reference) ≡ fresh_encoder
 anew_state None = refl
 anew_state (Some r) = refl
 
