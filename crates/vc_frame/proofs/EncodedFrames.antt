@@ -1,6 +1,6 @@
 -- The next frame of an encoder, from its planes.
 use Rattle.std.proofs.Common.{◌≡◌, ◌∙◌, sym, ap, subst, refl, ℕ, suc, ◌+◌, ◌-◌, ◌%◌, ◌<◌, ◌≤◌, List, [], ◌∷◌, ◌++◌, length, take, drop, map, arith, append_assoc, length-append}
-use Rattle.std.specs.Prelude.{Bool, true, false, not, cond, nat_le, ◌&&◌, ◌^◌}
+use Rattle.std.specs.Prelude.{Bool, true, false, not, cond, nat_le, ◌&&◌}
 use Rattle.std.proofs.lemmas.Bool.{and_parts}
 use Rattle.std.proofs.lemmas.Bool.Decides.{nat_tests}
 use Rattle.std.specs.declared.option.Option.{Option}
@@ -127,10 +127,10 @@ pub record IsNext (format : Format) (rates : RunRates) (raw out mid shown : List
   pub told : key ≡ (encode r.state format rates raw).key
   pub state : reference_of shown (Some (format_geometry format)) (Some r.state.since_reset) (cond key 1 (r.state.since_key + 1)) ((r.state.since_reset + 1) % 2048) ≡ with_state (encode r.state format rates raw).state r
 
--- a body that was written is small
+-- no frame is longer than a header and the longest body
 pub body_small : (format : Format) (rates : RunRates) (raw area shown out mid : List ℕ) (r : CodecReference) (body : Body) →
     is_legal_geometry (format_geometry format) ≡ true → IsPicture (format_geometry format) (planes_of format.fourcc format.width format.height raw) → r.state.since_reset < 2048 →
-    AreWritten (next_written format rates r.state raw) (picture_total (format_geometry format)) area shown out mid 44 body → body.end < 2 ^ 32
+    AreWritten (next_written format rates r.state raw) (picture_total (format_geometry format)) area shown out mid 44 body → body.end ≤ 17694764
 body_small format rates raw area shown out mid r body legal picture small w =
     let s : EncoderState = r.state in
     let due : Bool = is_key_due s.reference s.since_key rates.gop in
@@ -202,13 +202,13 @@ next_is format rates raw area bytes shown out mid geometry number since_key sinc
     (omega (arith, reset, small)) room (long ∙ ap length ea ∙ size) eg reset ek eh
     (as_next format rates raw area bytes shown out mid geometry number since_key since_reset r g key coding body eg ea er ek ei eq same w)
 
--- The body of the next frame is small.
+-- The next frame is no longer than a header and the longest body.
 pub next_small : (format : Format) (rates : RunRates) (raw area bytes shown out mid : List ℕ) (geometry : Option Geometry) (number : Option ℕ) (since_key since_reset : ℕ) (r : CodecReference) (g : Geometry) (key : Bool) (coding : Coding) (body : Body) →
     IsRawFormat format → g ≡ format_geometry format → bytes ≡ area → reference_of area geometry number since_key since_reset ≡ r → key ≡ is_key_due r.state.reference r.state.since_key rates.gop → coding.inter ≡ not key → coding.qp ≡ cond key rates.iqp rates.pqp →
     HasGeometry (format_geometry format) r.state.reference → since_reset < 2048 →
     IsPicture g (planes_of format.fourcc g.width g.height raw) →
     AreWritten (written_planes coding.inter coding.qp (plane_shapes g) (planes_of format.fourcc g.width g.height raw) (cut_into (plane_shapes g) bytes)) (picture_total g) bytes shown out mid 44 body →
-    body.end < 2 ^ 32
+    body.end ≤ 17694764
 next_small format rates raw area bytes shown out mid geometry number since_key since_reset r g key coding body f eg ea er ek ei eq same small picture w =
     let reset : since_reset ≡ r.state.since_reset = ap (λ (x : CodecReference). x.state.since_reset) er in
     body_small format rates raw area shown out mid r body f.0.1

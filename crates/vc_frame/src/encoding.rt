@@ -1,6 +1,6 @@
 //! Encoding a picture.
 
-ghost use Rattle.std.specs.Prelude.{◌≡◌, ◌≤◌, ◌<◌, ◌+◌, ◌-◌, ◌^◌, ◌∷◌, [], length, true, not, if◌then◌else◌};
+ghost use Rattle.std.specs.Prelude.{◌≡◌, ◌≤◌, ◌+◌, ◌-◌, ◌∷◌, [], length, true, not, if◌then◌else◌};
 ghost use Rattle.vc_defs.specs.Headers.{is_legal, header_bytes, most_bytes};
 ghost use Rattle.vc_defs.specs.Bodies.{IsPicture, plane_shapes, padded_sum};
 ghost use Rattle.vc_defs.specs.Raw.{cut_into, planes_of};
@@ -91,7 +91,7 @@ fn geometry_of(format: &Format) -> Geometry
 /// The header of a frame with a body that was written behind its place.
 fn header_of(geometry: Geometry, key: bool, body: &Body, number: u32) -> Header
     requires end { 44 ≤ body.now.end }
-    requires size { body.now.end < 2 ^ 32 }
+    requires size { body.now.end ≤ 17694764 }
     ensures { result ≡ record { geometry = geometry; key = key; raw = body.now.raw; colour = 0 ∷ 0 ∷ 0 ∷ 0 ∷ []; size = body.now.end - 44; number = Some number } }
 {
     let raw = body.raw;
@@ -139,6 +139,7 @@ pub fn encode_frame<T: Transform>(
     requires room { 44 + padded_sum (format_geometry format.now) ≤ length out.old }
     ensures frame { out.new ≡ put_over (encode reference.old.state format.now (run_rates rates.now) raw.now).bytes out.old }
     ensures length { result.0 ≡ length (encode reference.old.state format.now (run_rates rates.now) raw.now).bytes }
+    ensures most { result.0 ≤ 17694764 }
     ensures key { result.1 ≡ (encode reference.old.state format.now (run_rates rates.now) raw.now).key }
     ensures state { reference.new ≡ with_state (encode reference.old.state format.now (run_rates rates.now) raw.now).state reference.old }
     ensures same { HasGeometry (format_geometry format.now) reference.new.state.reference }

@@ -80,3 +80,8 @@ invariant_of-reference g c =
       key_fits = count_small c.count_on-reference-inside.result c.reference.inside.since_key c.is_key_due-key.result c.args.reference.now c.args.rates.now.gop c.count_on-reference-inside.ensures c.is_key_due-key.ensures since c.requires.rates.1;
       reset_fits = omega arith;
     }
+
+pub returns-clause-most : goal.returns-clause-most
+returns-clause-most g c =
+    next_small c.args.format.now (run_rates c.args.rates.now) c.args.raw.now c.reference.inside.area.items c.deref_mut-2.result.now c.write_body-body.new.area c.args.out.now c.write_body-body.new.out c.reference.inside.geometry c.reference.inside.number c.reference.inside.since_key c.reference.inside.since_reset c.args.reference.now c.geometry_of-geometry.result c.is_key_due-key.result c.coding_of-coding.result c.write_body-body.result
+    c.requires.raw_format c.geometry_of-geometry.ensures c.deref_mut-2.ensures.value c.reference.view_is c.is_key_due-key.ensures c.coding_of-coding.ensures.inter c.coding_of-coding.ensures.qp c.requires.same c.reference.invariant.reset_fits c.write_body-body.ensures.picture c.write_body-body.ensures.written
