@@ -22,6 +22,8 @@ impl Station for Bench {
 
     ghost follows = { λ _ _. Unit {0} };
 
+    ghost claims = { λ _ _ _. Unit {0} };
+
     fn claim(&mut self) -> Claimed {
         self.is_over = self.empties == 0;
         if self.is_over {
