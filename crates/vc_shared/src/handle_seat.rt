@@ -38,6 +38,7 @@ impl Model for HandleSeat {
 
 impl HandleSeat {
     ghost use Rattle.vc_shared.specs.Handles.{device_of, new_handle, IsHandle};
+    ghost use Rattle.vc_shared.specs.Joining.{IsSeatAt};
 
     /// The seat of a slot, with the seat at the lock that has the slot's number.
     pub(crate) fn new(seat: TurnSeat<Held>, sizes: Sizes, slot: u32) -> HandleSeat
@@ -51,6 +52,19 @@ impl HandleSeat {
             slot,
             hold: Hold::new(),
         }
+    }
+
+    /// The seat at the lock alone. The payloads are dropped.
+    pub(crate) fn into_turn_seat(self) -> TurnSeat<Held>
+        ensures { IsSeatAt self.device self.slot self.seat result }
+    {
+        let HandleSeat {
+            seat,
+            sizes: _,
+            slot: _,
+            hold: _,
+        } = self;
+        seat
     }
 
     /// What is known of every seat of a slot.
