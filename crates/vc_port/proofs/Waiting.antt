@@ -1,5 +1,5 @@
 -- How waiting goes on.
-use Rattle.std.proofs.Common.{◌≡◌, ◌≢◌, ◌++◌, ◌∷◌, [], List, refl, sym, ap, ◌∙◌, subst, ⊎_elim, append_assoc}
+use Rattle.std.proofs.Common.{◌≡◌, ◌≢◌, ◌++◌, ◌∷◌, [], List, refl, sym, ap, ◌∙◌, subst, append_assoc}
 use Rattle.std.proofs.lemmas.List.{append-nil}
 use Rattle.vc_base.specs.declared.Call.{Call}
 use Rattle.vc_base.specs.declared.Call.TheVariants.{Close}
@@ -93,7 +93,7 @@ module _ {S : Type 0} (calls : S → Call → Reply → S → Type 0) (pauses : 
     (pauses_are : (p q : S) → pauses p q → AreKept (events p) (hold p) (events q) (hold q)) where
   attempt_adds : (request : Call) (p q : S) → IsAttempt calls pauses request p q → AddsJobs (events p) (hold p) (events q) (hold q)
   attempt_adds request p q a =
-      ⊎_elim (λ (x : calls p request Blocked q). blocked_adds (events p) (events q) (hold p) (hold q) request (calls_are p q request Blocked x)) (λ (y : pauses p q). kept_adds (events p) (events q) (hold p) (hold q) (pauses_are p q y)) a
+      adds_on (events p) (events a.between) (events q) (hold p) (hold a.between) (hold q) (blocked_adds (events p) (events a.between) (hold p) (hold a.between) request (calls_are p a.between request Blocked a.blocked)) (kept_adds (events a.between) (events q) (hold a.between) (hold q) (pauses_are a.between q a.paused))
 
   waiting_adds : (request : Call) (p q : S) (stops : List S) → LeadsOver (IsAttempt calls pauses request) p stops q → AddsJobs (events p) (hold p) (events q) (hold q)
   waiting_adds request p q [] e =

@@ -1,5 +1,5 @@
 -- What a port remembers of its calls, and what waiting for an answer is.
-use Rattle.std.specs.Prelude.{◌≡◌, ◌⊎◌, List, [], ◌∷◌, ◌++◌}
+use Rattle.std.specs.Prelude.{◌≡◌, List, [], ◌∷◌, ◌++◌}
 use Rattle.vc_base.specs.declared.Call.{Call}
 use Rattle.vc_base.specs.declared.Reply.{Reply}
 use Rattle.vc_base.specs.declared.Reply.TheVariants.{Blocked}
@@ -16,9 +16,11 @@ answered_after calls request reply = calls ++ record { request = request; reply 
 
 -- Waiting
 
--- One attempt: the call was made and answered Blocked, or the port paused.
-abbrev pub IsAttempt : {S : Type 0} → (S → Call → Reply → S → Type 0) → (S → S → Type 0) → Call → S → S → Type 0
-IsAttempt calls pauses request old new = calls old request Blocked new ⊎ pauses old new
+-- One attempt: the call was answered by Blocked, and the port paused.
+pub record IsAttempt {S : Type 0} (calls : S → Call → Reply → S → Type 0) (pauses : S → S → Type 0) (request : Call) (old new : S) : Type 0 where
+  pub between : S
+  pub blocked : calls old request Blocked between
+  pub paused : pauses between new
 
 -- steps lead from the one over each of the list in turn to the other
 abbrev pub LeadsOver : {S : Type 0} → (S → S → Type 0) → S → List S → S → Type 0

@@ -19,6 +19,11 @@ pub data Worked : Type 0 where
   took : (job : StationJob) → Worked
   gave_back : (fault : Bool) → Worked
 
+abbrev pub is_job : Claimed → Bool
+is_job (gave.Job job) = true
+is_job gave.Empty = false
+is_job gave.Over = false
+
 -- The claim gave this job: it is one claim more, and the station has the job.
 pub record GivesJob (given : Job) (before after : List Worked) (has : Option StationJob) (over : Bool) : Type 0 where
   pub job : StationJob

@@ -2,6 +2,7 @@
 
 ghost use Rattle.std.specs.Prelude.{◌≡◌, Bool, List, Option, None, ◌∷◌, [], ◌++◌};
 ghost use Rattle.vc_core.specs.Jobs.{is_fault};
+ghost use Rattle.vc_port.specs.declared.station.Claimed.{Claimed};
 ghost use Rattle.vc_port.specs.Stations.{StationJob, Worked, gave_back, IsClaim, IsOf};
 
 use vc_core::{Finished, Job};
@@ -30,11 +31,14 @@ pub trait Station {
     ghost over: { Self → Bool };
     /// The station before and after: it is the same station, and what it knows only grew.
     ghost follows: { Self → Self → Type 0 };
+    /// What a claim that gives this does to the station.
+    ghost claims: { Self → Claimed → Self → Type 0 };
 
     fn claim(&mut self) -> Claimed
         requires { job self.old ≡ None }
         ensures claimed { IsClaim result (worked self.old) (worked self.new) (job self.new) (over self.new) }
-        ensures follows { follows self.old self.new };
+        ensures follows { follows self.old self.new }
+        ensures claims { claims self.old result self.new };
 
     fn finish(&mut self, finished: Finished)
         requires { IsOf (job self.old) finished }

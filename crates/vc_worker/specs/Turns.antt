@@ -2,7 +2,8 @@
 use Rattle.std.specs.Prelude.{ℕ, ◌≡◌, ◌⊎◌, ◌+◌, ◌≤◌, Bool, true, false, not, List, [], ◌∷◌, ◌++◌}
 use Rattle.std.specs.List.{count_by}
 use Rattle.vc_base.specs.Counts.{top_count}
-use Rattle.vc_port.specs.Stations.{StationJob, Worked, took, gave_back}
+use Rattle.vc_port.specs.declared.station.Claimed.{Claimed}
+use Rattle.vc_port.specs.Stations.{StationJob, Worked, took, gave_back, is_job}
 
 -- A job that was run: which one, and whether the engine gave up.
 pub record JobRun : Type 0 where
@@ -34,11 +35,13 @@ pub record Gained (before after : List Worked) (runs runs_after faults faults_af
   pub runs_stay : runs ≤ runs_after
   pub faults_stay : faults ≤ faults_after
 
+-- A claim that gave no job.
+pub record FindsNone {S : Type 0} (claims : S → Claimed → S → Type 0) (old new : S) : Type 0 where
+  pub gave : Claimed
+  pub no_job : is_job gave ≡ false
+  pub claimed : claims old gave new
+
 -- One turn: a job was claimed and finished, or there was none.
 abbrev pub IsTurn : Bool → List Worked → List Worked → Type 0
 IsTurn true before after = (run : JobRun) × (after ≡ before ++ worked_of (run ∷ []))
 IsTurn false before after = after ≡ before
-
--- one turn at most
-abbrev pub IsTurnAtMost : List Worked → List Worked → Type 0
-IsTurnAtMost before after = (was_job : Bool) × IsTurn was_job before after

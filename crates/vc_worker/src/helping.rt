@@ -1,7 +1,7 @@
 //! A caller that runs jobs while it waits.
 
-ghost use Rattle.std.specs.Prelude.{◌≡◌, None};
-ghost use Rattle.vc_worker.specs.Turns.{Gained, IsTurn};
+ghost use Rattle.std.specs.Prelude.{◌≡◌, None, false};
+ghost use Rattle.vc_worker.specs.Turns.{Gained, IsTurn, FindsNone};
 
 use vc_base::{Call, Reply, Side};
 use vc_core::Engine;
@@ -22,6 +22,7 @@ impl<T: Station, E: Engine> Help<T, E> {
         ensures follows { T.follows self.old.station self.new.station }
         ensures gained { Gained (T.worked self.old.station) (T.worked self.new.station) (E.run_count self.old.engine) (E.run_count self.new.engine) (E.fault_count self.old.engine) (E.fault_count self.new.engine) }
         ensures turn { IsTurn result (T.worked self.old.station) (T.worked self.new.station) }
+        ensures none { result ≡ false → FindsNone T.claims self.old.station self.new.station }
     {
         match self.station.claim() {
             Claimed::Job(job) => {
@@ -44,10 +45,10 @@ pub struct Helping<P: Port, T: Station, E: Engine = Box<dyn Engine + Send>> {
 }
 
 impl<P: Port, T: Station, E: Engine> Port for Helping<P, T, E> {
-    ghost use Rattle.std.specs.Prelude.{◌≡◌, None};
+    ghost use Rattle.std.specs.Prelude.{◌≡◌, None, false};
     ghost use Rattle.vc_worker.specs.Both.{Both, IfThere};
     ghost use Rattle.vc_worker.specs.Pauses.{IsPause};
-    ghost use Rattle.vc_worker.specs.Turns.{Gained, IsTurn};
+    ghost use Rattle.vc_worker.specs.Turns.{Gained, IsTurn, FindsNone};
 
     ghost answered = { λ h. P.answered h.port };
 
@@ -57,7 +58,7 @@ impl<P: Port, T: Station, E: Engine> Port for Helping<P, T, E> {
 
     ghost calls = { λ a request told b. P.calls a.port request told b.port × (b.help ≡ a.help) };
 
-    ghost pauses = { λ a b. IsPause P.pauses (λ was_job x y. IsTurn was_job (T.worked x.station) (T.worked y.station)) a.port b.port a.help b.help };
+    ghost pauses = { λ a b. IsPause P.pauses (λ was_job x y. IsTurn was_job (T.worked x.station) (T.worked y.station) × (was_job ≡ false → FindsNone T.claims x.station y.station)) a.port b.port a.help b.help };
 
     fn call(&mut self, call: &Call) -> Reply {
         self.port.call(call)

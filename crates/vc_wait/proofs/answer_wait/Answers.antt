@@ -1,4 +1,4 @@
-use Rattle.std.proofs.Common.{◌∙◌, inl, inr}
+use Rattle.std.proofs.Common.{◌∙◌}
 use Rattle.vc_port.proofs.Waiting.{waits_more}
 use Rattle.vc_wait.proofs.answer_wait.Goals as goal
 
@@ -12,5 +12,5 @@ loop-preserved g c =
       paused.ready,
       paused.answered ∙ (blocked.answered ∙ i.1),
       law.follows_on _ _ _ i.2 (law.follows_on _ _ _ blocked.follows paused.follows),
-      waits_more port.calls port.pauses _ _ _ _ (waits_more port.calls port.pauses _ _ _ _ i.3 (inl blocked.calls)) (inr paused.pauses),
+      waits_more port.calls port.pauses _ _ _ _ i.3 (record { between = c.call.new.self; blocked = blocked.calls; paused = paused.pauses }),
     )
