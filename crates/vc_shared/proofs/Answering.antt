@@ -11,24 +11,25 @@ use Rattle.vc_base.specs.Device.{DeviceEvent, call}
 use Rattle.vc_model.specs.Coder.{the_coder}
 use Rattle.vc_model.specs.Answer.{Answer, answer}
 use Rattle.vc_model.specs.Solo.{Answered}
-use Rattle.vc_model.specs.Devices.{Told, new_device, slot_of, steps_of, ignored, call_answered, device_step}
+use Rattle.vc_model.specs.Devices.{Told, new_device, slot_of, steps_of, ignored, call_answered, device_step, projection}
 use Rattle.vc_model.specs.Standing.{CoreState, Stands, core_slot}
 use Rattle.vc_model.specs.Core.{core_call}
 use Rattle.vc_model.specs.Seats.{Owner, handle_of, worker_of, may_add, IsAnswered, IsBlocked, HasItsCalls, Adds, Looks}
 use Rattle.vc_model.proofs.Standing.{after-append, core_slot_at, calls_stand, steps_are_history}
 use Rattle.vc_model.proofs.Blocking.{blocked_changes_nothing}
 use Rattle.vc_model.proofs.Hiding.{answers_without_job}
-use Rattle.vc_model.proofs.Seating.{answers_are_solo}
 use Rattle.vc_turn.specs.declared.rule.Noted.{Noted}
 use Rattle.vc_turn.specs.Place.{Place}
 use Rattle.vc_queue.specs.Holds.{HoldState}
 use Rattle.vc_context.specs.Payloads.{FitsSlot, Moves, handed_over}
 use Rattle.vc_core.specs.Steps.{IsCall}
+use Rattle.vc_port.specs.Payloads.{IsCallOn}
 use Rattle.vc_shared.specs.declared.held.Sizes.{Sizes}
 use Rattle.vc_shared.specs.Histories.{after, events_of, owner_of, IsLog, StandsForLog}
-use Rattle.vc_shared.specs.Handles.{handle_at, IsSlotSeat}
+use Rattle.vc_shared.specs.Handles.{handle_at, slot_events, IsSlotSeat}
 use Rattle.vc_shared.specs.Calls.{found_for, AnswersCall, BlocksCall}
 use Rattle.vc_shared.proofs.Logs.{entry, events-append, longer_log, own_calls, prefix_events}
+use Rattle.vc_shared.proofs.Alone.{grows, answered_alone, blocked_alone}
 use Rattle.vc_shared.proofs.Memory.{answer_found}
 use Rattle.vc_shared.proofs.Moving.{moves_in_device, blocked_moves_none}
 use Rattle.vc_shared.proofs.Seeing.{fits_later}
@@ -98,6 +99,7 @@ called slots workers k core core' log request hold reply s is =
 pub record CallMade (p : Place) (sizes : Sizes) (slot ticket : ℕ) (log : List Noted) (core' : CoreState) (request : Call) (reply : Reply) (hold hold' : HoldState) : Type 0 where
   pub put : StandsForLog sizes.slots sizes.workers core' (log ++ entry slot (call slot request (handed_over request hold) (found_for reply)) ∷ [])
   pub seat : IsSlotSeat (ended p log ticket (call slot request (handed_over request hold) (found_for reply))) sizes slot hold'
+  pub solo : IsCallOn (slot_events (handle_at p sizes slot hold)) hold request reply (slot_events (handle_at (ended p log ticket (call slot request (handed_over request hold) (found_for reply))) sizes slot hold')) hold'
   pub answers : AnswersCall (handle_at p sizes slot hold) (handle_at (ended p log ticket (call slot request (handed_over request hold) (found_for reply))) sizes slot hold') request reply
 
 pub call_made : (p : Place) (sizes : Sizes) (slot ticket : ℕ) (log : List Noted) (core core' : CoreState) (request : Call) (reply : Reply) (hold hold' : HoldState) → IsSlotSeat p sizes slot hold → IsInTurn sizes.slots sizes.workers p core log → IsCall core slot request hold reply core' → Moves (slot_of core slot) request reply hold hold' → FitsSlot (slot_of core' slot) hold' → length core'.slots ≡ length core.slots → core'.workers ≡ core.workers → core'.steps ≡ core.steps + steps_of reply → reply ≢ Blocked → CallMade p sizes slot ticket log core' request reply hold hold'
@@ -115,6 +117,7 @@ call_made p sizes slot ticket log core core' request reply hold hold' seat t is 
     let rest = rests_after_note slot (n + w) n w ticket p core log e seat.rest t entries in
     let q = ended p log ticket e in
     let seen : q.seen ≡ longer = ap (λ k. log ++ entry k e ∷ []) seat.rest.numbered in
+    let moves_there : Moves (slot_of d slot) request reply hold hold' = moves_in_device (slot_of d slot) request reply hold hold' (subst (λ s. Moves s request reply hold hold') (core_slot_is n w slot core (events_of log) stands.stands) moves) in
     record {
       put = record { stands = made.now; entries = entries; slot_count = size ∙ stands.slot_count; worker_count = ap length crew ∙ stands.worker_count };
       seat = record {
@@ -122,6 +125,7 @@ call_made p sizes slot ticket log core core' request reply hold hold' seat t is 
         within = seat.within;
         fits = subst (λ l. FitsSlot (slot_of (after n (events_of l)) slot) hold') (sym seen) (fits_in_device _ hold' (subst (λ s. FitsSlot s hold') (core_slot_is n w slot core' (events_of longer) made.now) fit));
       };
+      solo = subst (λ l. IsCallOn (projection the_coder (new_device n) (events_of p.seen) slot) hold request reply (projection the_coder (new_device n) l slot) hold') (sym (events-append log (entry p.number e ∷ []))) (answered_alone n slot p.seen log request reply made.handed hold hold' (grows n slot p.seen log t.seen stands.entries.own (same_entries slot (n + w) n w p core log seat.rest t)) made.told moves_there other);
       answers = record {
         handed = made.handed;
         answered = record {
@@ -135,8 +139,7 @@ call_made p sizes slot ticket log core core' request reply hold hold' seat t is 
           history = rest.entries.steps;
           told = made.told;
         };
-        payloads = moves_in_device (slot_of d slot) request reply hold hold' (subst (λ s. Moves s request reply hold hold') (core_slot_is n w slot core (events_of log) stands.stands) moves);
-        solo = answers_are_solo the_coder n slot (events_of log) request bytes (found_for reply) reply made.handed made.told;
+        payloads = moves_there;
       };
     }
 
@@ -144,6 +147,7 @@ call_made p sizes slot ticket log core core' request reply hold hold' seat t is 
 pub record CallBlocked (p : Place) (sizes : Sizes) (slot ticket : ℕ) (log : List Noted) (core' : CoreState) (request : Call) (hold hold' : HoldState) : Type 0 where
   pub put : StandsForLog sizes.slots sizes.workers core' log
   pub seat : IsSlotSeat (looked p log ticket) sizes slot hold'
+  pub solo : IsCallOn (slot_events (handle_at p sizes slot hold)) hold request Blocked (slot_events (handle_at (looked p log ticket) sizes slot hold')) hold'
   pub blocks : BlocksCall (handle_at p sizes slot hold) (handle_at (looked p log ticket) sizes slot hold') request
 
 pub call_blocked : (p : Place) (sizes : Sizes) (slot ticket : ℕ) (log : List Noted) (core core' : CoreState) (request : Call) (hold hold' : HoldState) → IsSlotSeat p sizes slot hold → IsInTurn sizes.slots sizes.workers p core log → IsCall core slot request hold Blocked core' → Moves (slot_of core slot) request Blocked hold hold' → CallBlocked p sizes slot ticket log core' request hold hold'
@@ -165,6 +169,7 @@ call_blocked p sizes slot ticket log core core' request hold hold' seat t is mov
         within = seat.within;
         fits = subst (FitsSlot (slot_of d slot)) (sym stay) (fits_later n slot p.seen log hold t.seen stands.entries.own (same_entries slot (n + w) n w p core log seat.rest t) seat.fits);
       };
+      solo = blocked_alone n slot p.seen log request made.handed hold hold' (grows n slot p.seen log t.seen stands.entries.own (same_entries slot (n + w) n w p core log seat.rest t)) made.told (moves_in_device (slot_of d slot) request Blocked hold hold' (subst (λ s. Moves s request Blocked hold hold') (core_slot_is n w slot core (events_of log) stands.stands) moves));
       blocks = record {
         blocked = record {
           looks = record { seen = prefix_events p.seen log t.seen; mine = refl };

@@ -1,4 +1,6 @@
+pub mod Alone
 pub mod Answering
+pub mod Closing
 pub mod Dealing
 pub mod DeviceJobs
 pub mod Fitting
@@ -10,5 +12,6 @@ pub mod Moving
 pub mod Resting
 pub mod Seeing
 pub mod Shutting
+pub mod Together
 pub mod Working
 pub mod Writing

@@ -1,8 +1,9 @@
 -- What a contract sees of a handle: of which slot it is, what it knows of the history, and the payloads that its user holds.
-use Rattle.std.specs.Prelude.{ℕ, ◌≡◌, ◌<◌, ◌+◌, false, []}
+use Rattle.std.specs.Prelude.{ℕ, ◌≡◌, ◌<◌, ◌+◌, false, List, []}
 use Rattle.atomic_table.specs.Seated.{TableId}
 use Rattle.vc_model.specs.Context.{Slot}
-use Rattle.vc_model.specs.Devices.{slot_of}
+use Rattle.vc_model.specs.Solo.{SoloEvent}
+use Rattle.vc_model.specs.Devices.{new_device, slot_of, projection}
 use Rattle.vc_model.specs.Coder.{the_coder}
 use Rattle.vc_model.specs.Standing.{IsHistory}
 use Rattle.vc_model.specs.Seats.{Seat, HasItsCalls}
@@ -49,6 +50,10 @@ new_handle device slot =
 -- the slot as the handle has seen it last
 abbrev pub slot_seen : HandleState → Slot
 slot_seen h = slot_of (after h.device.slots h.seat.seen) h.slot
+
+-- what happened to the slot by itself: its calls, and the claims and finishes of its jobs
+abbrev pub slot_events : HandleState → List SoloEvent
+slot_events h = projection the_coder (new_device h.device.slots) h.seat.seen h.slot
 
 -- What holds of every handle: its slot is one of the device, it knows a history of the device, the calls of its slot there are
 -- among its own entries, and the payloads fit the slot.

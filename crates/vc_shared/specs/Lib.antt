@@ -1,7 +1,9 @@
 pub mod Calls
 pub mod Claiming
 pub mod Claims
+pub mod Closing
 pub mod Handles
 pub mod Histories
+pub mod Joining
 pub mod Making
 pub mod Workers

@@ -3,6 +3,7 @@ ghost use Rattle.std.specs.Prelude.{◌≡◌, ◌≢◌};
 ghost use Rattle.std.specs.Option.{option_map};
 ghost use Rattle.vc_base.specs.declared.Reply.TheVariants.{Blocked};
 ghost use Rattle.vc_queue.specs.Holds.{held_payload, with_payload, written_over, HasRoom, HaveOneLength};
+ghost use Rattle.vc_port.specs.Payloads.{IsCallOn};
 ghost use Rattle.vc_shared.specs.Calls.{IsSameHandle, AnswersCall, BlocksCall, ShutsDevice};
 
 use crate::handle_seat::HandleSeat;
@@ -51,7 +52,7 @@ fn may_help(call: &Call, reply: &Reply) -> bool {
 }
 
 impl<'a, R> Handle<'a, R> {
-    ghost use Rattle.vc_shared.specs.Handles.{IsHandle};
+    ghost use Rattle.vc_shared.specs.Handles.{slot_events, IsHandle};
 
     /// A handle of the slot whose seat it is. The seat was made with this device.
     pub fn new(rt: &'a R, shared: &'a Shared, seat: HandleSeat) -> Handle<'a, R>
@@ -118,11 +119,12 @@ impl<'a, R> Handle<'a, R> {
 }
 
 impl<'a, R: Wait> Handle<'a, R> {
-    ghost use Rattle.vc_shared.specs.Handles.{IsHandle};
+    ghost use Rattle.vc_shared.specs.Handles.{slot_events, IsHandle};
 
     /// The call, of which `call` has the clauses.
     pub(crate) fn make(&mut self, call: &Call) -> Reply
         ensures same { IsSameHandle self.old self.new }
+        ensures solo { IsCallOn (slot_events self.old) self.old.hold call.now result (slot_events self.new) self.new.hold }
         ensures blocked { result ≡ Blocked → BlocksCall self.old self.new call.now }
         ensures answered { result ≢ Blocked → AnswersCall self.old self.new call.now result }
         ensures ready { IsHandle self.new }
@@ -148,12 +150,13 @@ impl<'a, R: Wait> Handle<'a, R> {
 }
 
 impl<'a, R: Wait + Sync> Handle<'a, R> {
-    ghost use Rattle.vc_shared.specs.Handles.{IsHandle};
+    ghost use Rattle.vc_shared.specs.Handles.{slot_events, IsHandle};
 
     /// Makes a call on the slot, in a turn of its own. An answered call is one entry of the history. Where the answer is
     /// Blocked nothing is noted and nothing changes. It waits for its turn, and may wait for ever.
     pub fn call(&mut self, call: &Call) -> Reply
         ensures same { IsSameHandle self.old self.new }
+        ensures solo { IsCallOn (slot_events self.old) self.old.hold call.now result (slot_events self.new) self.new.hold }
         ensures blocked { result ≡ Blocked → BlocksCall self.old self.new call.now }
         ensures answered { result ≢ Blocked → AnswersCall self.old self.new call.now result }
         ensures ready { IsHandle self.new }

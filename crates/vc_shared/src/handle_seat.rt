@@ -4,6 +4,7 @@ ghost use Rattle.std.specs.Option.{option_map};
 ghost use Rattle.vc_base.specs.declared.Reply.TheVariants.{Blocked};
 ghost use Rattle.vc_turn.specs.Place.{fresh_place};
 ghost use Rattle.vc_queue.specs.Holds.{held_payload, with_payload, written_over, HasRoom, HaveOneLength};
+ghost use Rattle.vc_port.specs.Payloads.{IsCallOn};
 ghost use Rattle.vc_shared.specs.Calls.{IsSameHandle, AnswersCall, BlocksCall, ShutsDevice};
 
 use crate::calls::make_call;
@@ -37,7 +38,8 @@ impl Model for HandleSeat {
 }
 
 impl HandleSeat {
-    ghost use Rattle.vc_shared.specs.Handles.{device_of, new_handle, IsHandle};
+    ghost use Rattle.vc_shared.specs.Handles.{device_of, new_handle, slot_events, IsHandle};
+    ghost use Rattle.vc_shared.specs.Joining.{IsSeatAt};
 
     /// The seat of a slot, with the seat at the lock that has the slot's number.
     pub(crate) fn new(seat: TurnSeat<Held>, sizes: Sizes, slot: u32) -> HandleSeat
@@ -53,6 +55,19 @@ impl HandleSeat {
         }
     }
 
+    /// The seat at the lock alone. The payloads are dropped.
+    pub(crate) fn into_turn_seat(self) -> TurnSeat<Held>
+        ensures { IsSeatAt self.device self.slot self.seat result }
+    {
+        let HandleSeat {
+            seat,
+            sizes: _,
+            slot: _,
+            hold: _,
+        } = self;
+        seat
+    }
+
     /// What is known of every seat of a slot.
     pub(crate) fn known(&self)
         ensures { IsHandle self.now }
@@ -64,6 +79,7 @@ impl HandleSeat {
     pub(crate) fn call<R: Wait>(&mut self, rt: &R, turn: &Turn<Held>, call: &Call) -> Reply
         requires { self.old.device.lock ≡ turn.now }
         ensures same { IsSameHandle self.old self.new }
+        ensures solo { IsCallOn (slot_events self.old) self.old.hold call.now result (slot_events self.new) self.new.hold }
         ensures blocked { result ≡ Blocked → BlocksCall self.old self.new call.now }
         ensures answered { result ≢ Blocked → AnswersCall self.old self.new call.now result }
         ensures ready { IsHandle self.new }

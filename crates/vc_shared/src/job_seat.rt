@@ -42,6 +42,7 @@ fn nothing(shut: bool) -> Claimed
 
 impl JobSeat {
     ghost use Rattle.vc_shared.specs.Handles.{device_of};
+    ghost use Rattle.vc_shared.specs.Joining.{IsSeatAt};
     ghost use Rattle.vc_shared.specs.Workers.{new_worker, slot_had, IsWorker};
     ghost use Rattle.vc_shared.specs.Claims.{IsSameWorker, IsClaim, IsOfItsJob, FinishesJob};
 
@@ -58,6 +59,19 @@ impl JobSeat {
             worker,
             over: false,
         }
+    }
+
+    /// The seat at the lock alone.
+    pub(crate) fn into_turn_seat(self) -> TurnSeat<Held>
+        ensures { IsSeatAt self.device (self.device.slots + self.worker) self.seat result }
+    {
+        let JobSeat {
+            seat,
+            sizes: _,
+            worker: _,
+            over: _,
+        } = self;
+        seat
     }
 
     /// What is known of every seat of a worker.

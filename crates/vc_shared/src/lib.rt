@@ -13,6 +13,7 @@ mod handle;
 mod handle_seat;
 mod held;
 mod job_seat;
+mod joining;
 mod notes;
 mod shared;
 mod turns;

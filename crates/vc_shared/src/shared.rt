@@ -2,11 +2,13 @@
 ghost use Rattle.std.specs.Prelude.{◌≡◌, ℕ, ◌<◌, ◌≤◌, ◌+◌, IfOk, Some, [], vec_len, vec_capacity, slice_get};
 ghost use Rattle.vc_turn.specs.Place.{fresh_place};
 ghost use Rattle.vc_shared.specs.Handles.{device_at};
+ghost use Rattle.vc_shared.specs.Closing.{AreHandlesOf, AreWorkersOf, IsClosed};
 ghost use Rattle.vc_shared.specs.Making.{AreNewHandles, AreNewWorkers};
 
 use crate::handle_seat::HandleSeat;
 use crate::held::{Held, Sizes};
 use crate::job_seat::JobSeat;
+use crate::joining::{join_handles, join_workers};
 use std::alloc::Global;
 use std::marker::Model;
 use vc_base::NoMemory;
@@ -90,5 +92,21 @@ impl Shared {
         let Seats { handles, jobs } = deal(&turn, all, sizes, handles, jobs);
         let bell = Bell::new();
         Ok((Shared { turn, bell }, handles, jobs))
+    }
+
+    /// Gives the core back, where all seats of the device come back in the order in which they were made. The core
+    /// stands for the one history, which all that any seat has seen begins, and each entry of it is one entry of one
+    /// seat.
+    pub fn close(self, handles: Vec<HandleSeat>, workers: Vec<JobSeat>) -> Core
+        requires some { 0 < vec_len handles }
+        requires handles { AreHandlesOf (device_at self (vec_len handles) (vec_len workers)) handles.items }
+        requires workers { AreWorkersOf (device_at self (vec_len handles) (vec_len workers)) workers.items }
+        ensures { IsClosed result handles.items workers.items }
+    {
+        let Shared { turn, bell: _ } = self;
+        let mut first = join_handles(&turn, handles);
+        join_workers(&turn, &mut first, workers);
+        let Held { core, sizes: _ } = turn.close(first);
+        core
     }
 }

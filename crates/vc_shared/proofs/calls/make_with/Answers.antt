@@ -1,11 +1,13 @@
 use Rattle.std.proofs.Common.{◌≡◌, sym, ap, ◌∙◌, subst}
 use Rattle.vc_base.specs.Device.{DeviceEvent, call}
+use Rattle.vc_base.specs.declared.Reply.TheVariants.{Blocked}
 use Rattle.vc_turn.specs.Place.{Place}
 use Rattle.vc_context.specs.Payloads.{handed_over, Moves}
 use Rattle.vc_core.specs.Steps.{IsCall}
 use Rattle.vc_model.specs.Devices.{slot_of}
 use Rattle.vc_shared.specs.Histories.{StandsForLog}
-use Rattle.vc_shared.specs.Handles.{handle_at, IsSlotSeat}
+use Rattle.vc_port.specs.Payloads.{IsCallOn}
+use Rattle.vc_shared.specs.Handles.{handle_at, slot_events, IsSlotSeat}
 use Rattle.vc_shared.specs.Calls.{found_for, AnswersCall, BlocksCall}
 use Rattle.vc_shared.proofs.Resting.{in_turn, ended, ended_is, looked_is, seen_after}
 use Rattle.vc_shared.proofs.Answering.{call_made, call_blocked, fits_in_turn, few_steps}
@@ -40,6 +42,17 @@ returns-in-Blocked-clause-seat g c =
     let is = subst (λ x. IsCall c.enter-core.result c.args.slot c.args.request.now c.args.hold.now x c.call-reply.new.self) c.in-Blocked.is r.step in
     let moves = subst (λ x. Moves (slot_of c.enter-core.result c.args.slot) c.args.request.now x c.args.hold.now c.call-reply.new.hold) c.in-Blocked.is r.payloads in
     subst (λ q. IsSlotSeat q c.args.sizes c.args.slot c.call-reply.new.hold) (sym (looked_is c.args.seat.now c.enter-core.new.seat c.put.new.seat e.turn c.put.ensures)) (call_blocked c.args.seat.now c.args.sizes c.args.slot c.enter-core.new.seat.ticket c.enter-core.new.seat.seen c.enter-core.result c.call-reply.new.self c.args.request.now c.args.hold.now c.call-reply.new.hold c.requires.seat t is moves).seat
+
+pub returns-in-Blocked-clause-solo : goal.returns-in-Blocked-clause-solo
+returns-in-Blocked-clause-solo g c =
+    let e = c.enter-core.ensures in
+    let r = c.call-reply.ensures in
+    let a = c.args in
+    let t = in_turn _ _ a.seat.now c.enter-core.new.seat c.enter-core.result e.turn e.seen e.own e.core in
+    let is = subst (λ x. IsCall c.enter-core.result a.slot a.request.now a.hold.now x c.call-reply.new.self) c.in-Blocked.is r.step in
+    let moves = subst (λ x. Moves (slot_of c.enter-core.result a.slot) a.request.now x a.hold.now c.call-reply.new.hold) c.in-Blocked.is r.payloads in
+    let made = call_blocked a.seat.now a.sizes a.slot c.enter-core.new.seat.ticket c.enter-core.new.seat.seen c.enter-core.result c.call-reply.new.self a.request.now a.hold.now c.call-reply.new.hold c.requires.seat t is moves in
+    subst (λ x. IsCallOn (slot_events (handle_at a.seat.now a.sizes a.slot a.hold.now)) a.hold.now a.request.now x (slot_events (handle_at c.put.new.seat a.sizes a.slot c.call-reply.new.hold)) c.call-reply.new.hold) (sym c.in-Blocked.is) (subst (λ q. IsCallOn (slot_events (handle_at a.seat.now a.sizes a.slot a.hold.now)) a.hold.now a.request.now Blocked (slot_events (handle_at q a.sizes a.slot c.call-reply.new.hold)) c.call-reply.new.hold) (sym (looked_is a.seat.now c.enter-core.new.seat c.put.new.seat e.turn c.put.ensures)) made.solo)
 
 pub returns-in-Blocked-clause-blocked : goal.returns-in-Blocked-clause-blocked
 returns-in-Blocked-clause-blocked g c =
@@ -76,6 +89,7 @@ returns-in_default g c =
     record {
       lock = ap (λ (x : Place). x.turn) is;
       seat = subst (λ q. IsSlotSeat q c.args.sizes c.args.slot c.call-reply.new.hold) same made.seat;
+      solo = subst (λ q. IsCallOn (slot_events (handle_at c.args.seat.now c.args.sizes c.args.slot c.args.hold.now)) c.args.hold.now c.args.request.now c.call-reply.result (slot_events (handle_at q c.args.sizes c.args.slot c.call-reply.new.hold)) c.call-reply.new.hold) same made.solo;
       blocked = λ was. absurd (c.in_default.not-Blocked was);
       answered = λ other. subst (λ q. AnswersCall (handle_at c.args.seat.now c.args.sizes c.args.slot c.args.hold.now) (handle_at q c.args.sizes c.args.slot c.call-reply.new.hold) c.args.request.now c.call-reply.result) same made.answers;
     }
