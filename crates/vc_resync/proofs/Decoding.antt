@@ -24,7 +24,7 @@ use Rattle.vc_defs.proofs.ResultOrder.{all_inside}
 use Rattle.vc_defs.proofs.ByFinds.{results_are_of_finds}
 use Rattle.vc_defs.proofs.Resuming.{resuming}
 use Rattle.vc_defs.proofs.Waiting.{given_stays, begins_fresh}
-use Rattle.vc_resync.specs.Decoding.{RunEnd, run_later, Feeds, used_up, gives, goes_on, InStep, IsRun, EndsInStep, BeginsInStep, DecodesByFeeds}
+use Rattle.vc_resync.specs.Decoding.{RunEnd, run_later, Feeds, used_up, gives, goes_on, InStep, IsRun, EndsInStep, BeginsInStep, DecodesByFeeds, RunsEnd}
 
 -- Section: what a find gives.
 
@@ -551,3 +551,63 @@ begins_in_step limit g =
       results = λ more. results_are_of_finds limit g None more;
       kept = ap (λ t. kept_of limit [] t) given ∙ sym (ap (λ t. kept_before limit [] t) none);
     }
+
+-- Section: each run ends.
+
+-- a find gives one result at most
+at_most_one : (f : Find) (now : BetweenFrames) → (given_by_find f now ≡ []) ⊎ ((x : GivenResult) × (given_by_find f now ≡ x ∷ []))
+at_most_one (Head position h) now = by_test (is_change h now.geometry)
+  where
+    by_test : (b : Bool) → (cond b (change_of position h ∷ []) [] ≡ []) ⊎ ((x : GivenResult) × (cond b (change_of position h ∷ []) [] ≡ x ∷ []))
+    by_test true = inr (change_of position h, refl)
+    by_test false = inl refl
+at_most_one (Ended f) now = by_test (is_passed_over f.header now.reference)
+  where
+    by_test : (b : Bool) → (cond b [] (given_at_end f now ∷ []) ≡ []) ⊎ ((x : GivenResult) × (cond b [] (given_at_end f now ∷ []) ≡ x ∷ []))
+    by_test true = inl refl
+    by_test false = inr (given_at_end f now, refl)
+
+-- by the finds that are still to be told
+run_by : (limit : ℕ) (stamp : Stamp) (now : BetweenFrames) (fs : List Find) (bytes source : List ℕ) (stamps : List Stamp) (told : ℕ) → length stamps ≡ length bytes → IsTold bytes limit told → drop told (finds (bytes ++ source) limit) ≡ fs →
+    (kept : KeptBytes) → kept ≡ kept_at bytes stamps limit told → (run : RunEnd) × Feeds limit stamp kept now source run
+run_by limit stamp now [] bytes source stamps told long t e kept is =
+    let r = feeding limit bytes source stamps stamp told long t in
+    let none = subst (λ (fs : List Find). TellsFind (fed (kept_at bytes stamps limit told) limit source stamp) (length bytes - length (kept_at bytes stamps limit told).tail) bytes source (λ p. get_or (stamps ++ replicate (length source) stamp) p zero_stamp) fs) e r.1 in (
+      record { kind = None; stamp = stamp; moved = (fed kept limit source stamp).moved; kept = (fed kept limit source stamp).kept; present = now },
+      used_up kept now source (ap (λ k. (fed k limit source stamp).told) is ∙ none.0),
+    )
+run_by limit stamp now (f ∷ fs) bytes source stamps told long t e kept is =
+    by_told (fed kept limit source stamp).told refl
+    (λ b s n l t e k i. run_by limit stamp now fs b s n l t e k i)
+  where
+    step : FedStep
+    step = fed kept limit source stamp
+
+    by_told : (o : Option Find) → step.told ≡ o → ((bytes source : List ℕ) (stamps : List Stamp) (told : ℕ) → length stamps ≡ length bytes → IsTold bytes limit told → drop told (finds (bytes ++ source) limit) ≡ fs →
+        (kept : KeptBytes) → kept ≡ kept_at bytes stamps limit told → (run : RunEnd) × Feeds limit stamp kept now source run) → (run : RunEnd) × Feeds limit stamp kept now source run
+    by_told None o rest = (record { kind = None; stamp = stamp; moved = step.moved; kept = step.kept; present = now }, used_up kept now source o)
+    by_told (Some find) o rest = by_given (at_most_one find now)
+      where
+        n : Next limit bytes source stamps stamp told find step
+        n = subst (λ (k : KeptBytes). (fed k limit source stamp).told ≡ Some find → Next limit bytes source stamps stamp told find (fed k limit source stamp)) (sym is) (next_is limit bytes source stamps stamp told find long t) o
+
+        whole : bytes ++ source ≡ bytes ++ take step.moved source ++ drop step.moved source
+        whole = ap (λ t. bytes ++ t) (sym (take-append-drop step.moved source)) ∙ sym (append_assoc bytes (take step.moved source) (drop step.moved source))
+
+        others : drop (suc told) (finds (bytes ++ take step.moved source ++ drop step.moved source) limit) ≡ fs
+        others =
+            let all : n.next ∷ drop (suc told) (finds (bytes ++ take step.moved source ++ drop step.moved source) limit) ≡ f ∷ fs =
+            sym (n.on (drop step.moved source)) ∙ ap (λ t. drop told (finds t limit)) (sym whole) ∙ e in
+            cc
+
+        by_given : (given_by_find find now ≡ []) ⊎ ((x : GivenResult) × (given_by_find find now ≡ x ∷ [])) → (run : RunEnd) × Feeds limit stamp kept now source run
+        by_given (inr x) =
+            (record { kind = Some x.0.result.kind; stamp = step.stamp; moved = step.moved; kept = step.kept; present = x.0.present }, gives kept now source find x.0 o x.1)
+        by_given (inl nothing) =
+            let later = rest (bytes ++ take step.moved source) (drop step.moved source) (stamps ++ replicate step.moved stamp) (suc told)
+            (omega (arith, long, length-append stamps (replicate step.moved stamp), length-replicate step.moved stamp, length-append bytes (take step.moved source), length-take-le step.moved source n.inside))
+            n.there others step.kept n.kept in
+            (run_later step.moved later.0, goes_on kept now source find later.0 o nothing later.1)
+
+pub runs_end : RunsEnd
+runs_end limit bytes source stamps stamp told now long t = run_by limit stamp now (drop told (finds (bytes ++ source) limit)) bytes source stamps told long t refl (kept_at bytes stamps limit told) refl

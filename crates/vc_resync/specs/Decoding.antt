@@ -56,6 +56,11 @@ pub record EndsInStep (limit : ℕ) (g : Option Geometry) (bytes : List ℕ) (st
   pub kept : run.kept ≡ kept_at bytes stamps limit told
   pub present : run.present ≡ present_at bytes limit g given
 
+-- From what is kept of any bytes a run over any others ends.
+abbrev pub RunsEnd : Type 0
+RunsEnd = (limit : ℕ) (bytes source : List ℕ) (stamps : List Stamp) (stamp : Stamp) (told : ℕ) (now : BetweenFrames) →
+    length stamps ≡ length bytes → IsTold bytes limit told → (run : RunEnd) × Feeds limit stamp (kept_at bytes stamps limit told) now source run
+
 -- Before any bytes finds and results are in step.
 abbrev pub BeginsInStep : Type 0
 BeginsInStep = (limit : ℕ) (g : Option Geometry) → InStep limit g [] 0 0
