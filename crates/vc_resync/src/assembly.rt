@@ -60,7 +60,7 @@ impl Assembly {
         self.told = Told::Nothing;
     }
 
-    /// The body of the whole frame that the last feed told.
+    /// The body of the whole frame that the last feed told. It has as many bytes as the frame's header says.
     pub fn body(&self) -> &[u8]
         requires { IsSome (told_body self.now.told) }
         ensures { told_body self.now.told ≡ Some result.now }

@@ -1,7 +1,7 @@
 use Rattle.std.proofs.Common.{Option, ◌≡◌, sym, ℕ, subst, length, take, drop}
 use Rattle.std.proofs.lemmas.List.{length-take-le}
 use Rattle.vc_defs.specs.Finds.{fed}
-use Rattle.vc_resync.specs.Assembling.{AssemblyState, ToldFrame, is_told, IsToldBy}
+use Rattle.vc_resync.specs.Assembling.{AssemblyState, ToldFrame, IsToldBy}
 use Rattle.vc_resync.specs.Collecting.{kept_in}
 use Rattle.vc_resync.specs.Continuing.{IsKept, SameAnswer, IsAnswered}
 use Rattle.vc_resync.specs.Telling.{told_in}
