@@ -1,0 +1,10 @@
+pub mod Calling
+pub mod Layouts
+pub mod Noting
+pub mod Opening
+pub mod Placing
+pub mod Queueing
+pub mod Rows
+pub mod Seeking
+pub mod Serving
+pub mod Settled
