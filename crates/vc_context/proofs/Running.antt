@@ -20,7 +20,7 @@ use Rattle.vc_work.specs.declared.engine.EngineFault.{EngineFault}
 use Rattle.vc_work.specs.References.{CodecReference}
 use Rattle.vc_work.specs.Runs.{Fits, HasAll, HasDest, HasReference, IsRun, Does, IsCopied, IsEncoded, KeepsLengths, dest_bytes, copied_over, copied_length, coder_state, with_state, next_frame, put_over, run_rates, format_geometry, HasGeometry}
 use Rattle.vc_context.specs.Works.{IsWork, IsSort, IsCodec, HasState, IsDest, IsSourceBack, HasFront, HasBytes, HasFrame, HasRoomFor, HasAreas, IsResult, IsBack}
-use Rattle.vc_context.specs.Laws.{KeepsQueued, RunsAreBack}
+use Rattle.vc_context.specs.Laws.{put_back, RunsAreBack}
 
 -- the destination keeps its size
 dest_same : (ds : List Buffer) (old new : Option (List ℕ)) → IsDest ds old → option_map length new ≡ option_map length old → IsDest ds new
@@ -80,10 +80,13 @@ frame_picture : (state : EncoderState) (format : Format) (rates : RunRates) (byt
 unfolding encode_frame
 frame_picture state format rates bytes = refl
 
-module _ (j : JobData) (old new : Work) (h : IsWork j old) (fits : Fits old) (lengths : KeepsLengths old new) (queued : KeepsQueued old new) where
+module _ (j : JobData) (old ran : Work) (h : IsWork j old) (fits : Fits old) (lengths : KeepsLengths old ran) where
+  abbrev new : Work
+  new = put_back old ran
+
   source_back : IsSourceBack j.source new.source
   source_back =
-      record { used = queued.used ∙ h.source.used; stamp = queued.stamp ∙ h.source.stamp; size = (let e : length new.source.payload.items ≡ length old.source.payload.items = omega (arith, lengths.source, new.source.payload.ok.0, old.source.payload.ok.0) in e) ∙ h.source.size }
+      record { used = h.source.used; stamp = h.source.stamp; size = (let e : length ran.source.payload.items ≡ length old.source.payload.items = omega (arith, lengths.source, ran.source.payload.ok.0, old.source.payload.ok.0) in e) ∙ h.source.size }
 
   dest_back : IsDest j.dest (dest_bytes new)
   dest_back = dest_same j.dest (dest_bytes old) (dest_bytes new) h.dest lengths.dest
@@ -105,10 +108,10 @@ module _ (j : JobData) (old new : Work) (h : IsWork j old) (fits : Fits old) (le
       ap length (sym h.source.bytes) ∙ length-take-le j.source.used old.source.payload.items filled
 
   -- the source has its bytes after a run
-  source_kept : (outcome : Outcome) → IsRun old new outcome → take j.source.used new.source.payload.items ≡ j.source.bytes
+  source_kept : (outcome : Outcome) → IsRun old ran outcome → take j.source.used new.source.payload.items ≡ j.source.bytes
   source_kept outcome r = ap (take j.source.used) r.rest.bytes ∙ h.source.bytes
 
-  copied_at : (count : ℕ) → IsRun old new (Copied count) → IsCopied old new count → HasBytes (take (min j.source.used (dest_size j.dest)) j.source.bytes) j.source new count
+  copied_at : (count : ℕ) → IsRun old ran (Copied count) → IsCopied old ran count → HasBytes (take (min j.source.used (dest_size j.dest)) j.source.bytes) j.source new count
   copied_at count r c =
       let src : List ℕ = old.source.payload.items in
       let n : ℕ = min j.source.used (dest_size j.dest) in
@@ -126,7 +129,7 @@ module _ (j : JobData) (old new : Work) (h : IsWork j old) (fits : Fits old) (le
   frame_at state c =
       ap (λ (s : EncoderState). encode_frame s old.format (run_rates old.rates) (take old.source.used old.source.payload.items)) (state_there state old.reference c) ∙ (ap (λ (f : Format). encode_frame state f (run_rates old.rates) (take old.source.used old.source.payload.items)) h.format ∙ (ap (λ (r : RunRates). encode_frame state j.format r (take old.source.used old.source.payload.items)) h.rates ∙ ap (encode_frame state j.format j.rates) (ap (λ (u : ℕ). take u old.source.payload.items) h.source.used ∙ h.source.bytes)))
 
-  encoded_at : (count least : ℕ) (key : Bool) (state : EncoderState) → HasState state old.reference → HasDest least (dest_bytes old) → IsRun old new (Encoded count key) → IsEncoded old new count key → HasFrame (next_frame old) j new count key
+  encoded_at : (count least : ℕ) (key : Bool) (state : EncoderState) → HasState state old.reference → HasDest least (dest_bytes old) → IsRun old ran (Encoded count key) → IsEncoded old ran count key → HasFrame (next_frame old) j new count key
   encoded_at count least key state c d r e =
       record {
         bytes = record { told = e.told; front = frame_front j.dest least (dest_bytes old) (dest_bytes new) (next_frame old).bytes d e.dest; source_bytes = source_kept (Encoded count key) r };
@@ -135,14 +138,14 @@ module _ (j : JobData) (old new : Work) (h : IsWork j old) (fits : Fits old) (le
         picture = subst (λ (f : Format). HasGeometry (format_geometry f) (next_frame old).state.reference) h.format (frame_picture (coder_state old.reference) old.format (run_rates old.rates) (take old.source.used old.source.payload.items));
       }
 
-  copied_to : (count : ℕ) → IsRun old new (Copied count) → (s : Sort) (run : RunSort) (codec : CodecState) → j.sort ≡ run → IsSort run s → IsCodec codec s old.reference → Does s old new (Copied count) → IsResult (Some (run_of the_coder j run)) j new (Ok (Copied count))
+  copied_to : (count : ℕ) → IsRun old ran (Copied count) → (s : Sort) (run : RunSort) (codec : CodecState) → j.sort ≡ run → IsSort run s → IsCodec codec s old.reference → Does s old ran (Copied count) → IsResult (Some (run_of the_coder j run)) j new (Ok (Copied count))
   copied_to count r sort.Copy copy codec k i c d = (k, copied_at count r d)
   copied_to count r sort.Copy encode codec k i c d = absurd i
   copied_to count r sort.Copy decode codec k i c d = absurd i
   copied_to count r sort.Copy probe codec k i c d = absurd i
   copied_to count r sort.Encode run codec k i c d = absurd d
 
-  encoded_to : (count : ℕ) (key : Bool) → IsRun old new (Encoded count key) → (s : Sort) (run : RunSort) (codec : CodecState) → j.sort ≡ run → j.codec ≡ codec → HasAll s old → IsSort run s → IsCodec codec s old.reference → Does s old new (Encoded count key) → IsResult (Some (run_of the_coder j run)) j new (Ok (Encoded count key))
+  encoded_to : (count : ℕ) (key : Bool) → IsRun old ran (Encoded count key) → (s : Sort) (run : RunSort) (codec : CodecState) → j.sort ≡ run → j.codec ≡ codec → HasAll s old → IsSort run s → IsCodec codec s old.reference → Does s old ran (Encoded count key) → IsResult (Some (run_of the_coder j run)) j new (Ok (Encoded count key))
   encoded_to count key r sort.Copy run codec k e a i c d = absurd d
   encoded_to count key r sort.Encode copy codec k e a i c d = absurd i
   encoded_to count key r sort.Encode encode no_codec k e a i c d = absurd c
@@ -152,7 +155,7 @@ module _ (j : JobData) (old new : Work) (h : IsWork j old) (fits : Fits old) (le
   encoded_to count key r sort.Encode decode codec k e a i c d = absurd i
   encoded_to count key r sort.Encode probe codec k e a i c d = absurd i
 
-  came_to : (result : Result Outcome EngineFault) → IfOk result (IsRun old new) → IsResult (result_of the_coder j (is_err result)) j new result
+  came_to : (result : Result Outcome EngineFault) → IfOk result (IsRun old ran) → IsResult (result_of the_coder j (is_err result)) j new result
   unfolding run_result
   came_to (Err fault) r = tt
   came_to (Ok (Copied count)) r =
@@ -160,7 +163,7 @@ module _ (j : JobData) (old new : Work) (h : IsWork j old) (fits : Fits old) (le
   came_to (Ok (Encoded count key)) r =
       encoded_to count key r old.sort j.sort j.codec refl refl fits.all h.sort h.codec r.done
 
-  pub is_back : (result : Result Outcome EngineFault) → IfOk result (IsRun old new) → IsBack (brought_back the_coder j (is_err result)) new result
+  pub is_back : (result : Result Outcome EngineFault) → IfOk result (IsRun old ran) → IsBack (brought_back the_coder j (is_err result)) new result
   is_back result r =
       record {
         source = source_back;
@@ -170,5 +173,5 @@ module _ (j : JobData) (old new : Work) (h : IsWork j old) (fits : Fits old) (le
       }
 
 pub runs_are_back : RunsAreBack
-runs_are_back j old new result h fits lengths queued r =
-    is_back j old new h fits lengths queued result r
+runs_are_back j old ran result h fits lengths r =
+    is_back j old ran h fits lengths result r

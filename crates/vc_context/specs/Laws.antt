@@ -9,12 +9,12 @@ use Rattle.vc_work.specs.declared.engine.Outcome.{Outcome}
 use Rattle.vc_work.specs.declared.engine.EngineFault.{EngineFault}
 use Rattle.vc_context.specs.Works.{IsWork, IsBack}
 
--- the source has the used bytes and the stamp that it was queued with
-pub record KeepsQueued (old new : Work) : Type 0 where
-  pub used : new.source.used ≡ old.source.used
-  pub stamp : new.source.stamp ≡ old.source.stamp
+-- the work after a run, with the used bytes and the stamp of the source as they were queued
+abbrev pub put_back : Work → Work → Work
+put_back old ran =
+    record ran { source = record ran.source { used = old.source.used; stamp = old.source.stamp } }
 
 -- What an engine makes of the work of a job, with a fault or without, is what the model says of the job's end.
 abbrev pub RunsAreBack : Type 0
 RunsAreBack =
-    (j : JobData) (old new : Work) (result : Result Outcome EngineFault) → IsWork j old → Fits old → KeepsLengths old new → KeepsQueued old new → IfOk result (IsRun old new) → IsBack (brought_back the_coder j (is_err result)) new result
+    (j : JobData) (old ran : Work) (result : Result Outcome EngineFault) → IsWork j old → Fits old → KeepsLengths old ran → IfOk result (IsRun old ran) → IsBack (brought_back the_coder j (is_err result)) (put_back old ran) result

@@ -11,8 +11,9 @@ use Rattle.vc_queue.specs.declared.queue.Lent.{Lent}
 use Rattle.vc_queue.specs.Lending.{IsLent, IsLentFrom}
 use Rattle.vc_queue.specs.Releasing.{front_ordinal}
 use Rattle.vc_context.specs.Contexts.{AreFilled, has_work, IsKept, IsStep}
-use Rattle.vc_core.specs.Copying.{data_bytes, copier_state, job_mark}
-use Rattle.vc_core.specs.Jobs.{IsGiven, IsDest, RunsIn, RunsWith, claimed_data}
+use Rattle.vc_context.specs.Works.{IsDest, RunsIn, RunsInWith, IsIndexOf}
+use Rattle.vc_context.proofs.Going.{lent_out}
+use Rattle.vc_core.specs.Copying.{data_bytes, copier_state, job_mark, IsGiven, claimed_data}
 
 -- when a job can be claimed
 
@@ -67,21 +68,10 @@ front_filled (b ∷ rest) lent e f l =
     let below : b.used ≤ b.size = leb-true b.used b.size h in
     omega (arith, l.used, l.size)
 
-lent_side : (q : QueueState) (bs : List Buffer) → (lend_front q bs).side ≡ q.side
-lent_side q [] = refl
-lent_side q (b ∷ rest) = refl
-
-lent_queued : (q : QueueState) (bs : List Buffer) → (lend_front q bs).next_ordinal ≡ q.next_ordinal
-lent_queued q [] = refl
-lent_queued q (b ∷ rest) = refl
-
-lent_seq : (q : QueueState) (bs : List Buffer) → (lend_front q bs).next_seq ≡ q.next_seq
-lent_seq q [] = refl
-lent_seq q (b ∷ rest) = refl
-
-lent_filled : (q : QueueState) (bs : List Buffer) → q.ready ≡ bs → AreFilled bs → AreFilled (lend_front q bs).ready
-lent_filled q [] e f = rw e f
-lent_filled q (b ∷ rest) e f = (and_parts (leb b.used b.size) _ f).1
+-- the index of the buffer that was lent
+index_at : (q : QueueState) (bs : List Buffer) (lent : Lent) → q.ready ≡ bs → is_empty bs ≡ false → IsLentFrom bs lent → IsIndexOf lent.index (without_job_bytes (lend_front q bs)).job
+index_at q [] lent r e l = absurd (false≢true (sym e))
+index_at q (b ∷ rest) lent r e l = sym l.index
 
 claimed_front : (size : ℕ) (out cap : QueueState) (running : Bool) (bs : List Buffer) → is_empty bs ≡ false → copier_state size (without_job_bytes (lend_after out)) (without_job_bytes (lend_after cap)) true ≡ without_job (claim_front (copier_state size out cap running) copy bs)
 claimed_front size out cap running [] e = absurd (false≢true (sym e))
@@ -94,9 +84,11 @@ given_front size out cap running source dest (b ∷ rest) (d ∷ more) eo ec e f
     let jo : (lend_after out).job ≡ b ∷ [] = ap (λ (xs : List Buffer). (lend_front out xs).job) eo in
     let jc : (lend_after cap).job ≡ d ∷ [] = ap (λ (xs : List Buffer). (lend_front cap xs).job) ec in
     record {
-      sort = tt;
+      sort = refl;
+      codec = refl;
       source = subst (λ (j : List Buffer). IsLent (source_of j) source) (sym jo) l;
-      dest = subst (λ (j : List Buffer). IsDest j dest.index (Some dest.payload.items)) (sym jc) (m.index, m.size);
+      dest = subst (λ (j : List Buffer). IsDest j (Some dest.payload.items)) (sym jc) m.size;
+      geometry = refl;
       format = refl;
       limit = refl;
       rates = refl;
@@ -108,12 +100,17 @@ taken_job size out cap running (b ∷ rest) e = refl
 
 runs_front : (size : ℕ) (out cap : QueueState) (running : Bool) (bs ds : List Buffer) → out.ready ≡ bs → cap.ready ≡ ds → is_empty bs ≡ false → is_empty ds ≡ false → let c : Context = copier_state size out cap running in RunsIn (copier_state size (without_job_bytes (lend_after out)) (without_job_bytes (lend_after cap)) true) (job_data (claim_front c copy bs) (running_of c copy))
 runs_front size out cap running [] ds eo ec e f = absurd (false≢true (sym e))
-runs_front size out cap running (b ∷ rest) ds eo ec e f =
+runs_front size out cap running (b ∷ rest) [] eo ec e f = absurd (false≢true (sym f))
+runs_front size out cap running (b ∷ rest) (d ∷ more) eo ec e f =
     let jo : (lend_after out).job ≡ b ∷ [] = ap (λ (xs : List Buffer). (lend_front out xs).job) eo in
+    let jc : (lend_after cap).job ≡ d ∷ [] = ap (λ (xs : List Buffer). (lend_front cap xs).job) ec in
     record {
       running = refl;
       source = ap (map without_bytes) jo ∙ ap (λ (j : List Buffer). without_bytes (source_of j) ∷ []) (sym jo);
       dest = refl;
+      dests = ap length jc;
+      codec = tt;
+      run = record { sort = refl; same_geometry = refl; limit = refl; format = λ h. refl };
     }
 
 module _ (size : ℕ) (out cap : QueueState) (running : Bool) (c : Context) (view : copier_state size out cap running ≡ c) (can : is_claimable (Some c) ≡ true) where
@@ -133,9 +130,11 @@ module _ (size : ℕ) (out cap : QueueState) (running : Bool) (c : Context) (vie
   pub claim_step : (new_out new_cap : QueueState) → IsKept c → new_out ≡ without_job_bytes (lend_after out) → new_cap ≡ without_job_bytes (lend_after cap) → IsStep c (copier_state size new_out new_cap true)
   claim_step new_out new_cap kept eo ec =
       let k = subst (λ (x : Context). IsKept x) (sym view) kept in
+      let o = lent_out out in
+      let p = lent_out cap in
       let step : IsStep (copier_state size out cap running) (copier_state size (without_job_bytes (lend_after out)) (without_job_bytes (lend_after cap)) true) = record {
-        kept = record { out_side = lent_side out out.ready ∙ k.out_side; cap_side = lent_side cap cap.ready ∙ k.cap_side; filled = lent_filled out out.ready refl k.filled; out_idle = λ e. cc; cap_idle = λ e. cc };
-        counted = λ bound n. record { out_queued = omega (arith, lent_queued out out.ready, n.out_queued); cap_queued = omega (arith, lent_queued cap cap.ready, n.cap_queued); out_done = omega (arith, lent_seq out out.ready, n.out_done); cap_done = omega (arith, lent_seq cap cap.ready, n.cap_done); raised = omega (arith, n.raised) };
+        kept = record { out_side = o.side ∙ k.out_side; cap_side = p.side ∙ k.cap_side; filled = o.ready k.filled; job_filled = o.job k.filled k.job_filled; out_filled = subst AreFilled (sym o.done) k.out_filled; cap_filled = subst AreFilled (sym p.done) k.cap_filled; out_idle = λ e. cc; cap_idle = λ e. cc };
+        counted = λ bound n. record { out_queued = omega (arith, o.queued, n.out_queued); cap_queued = omega (arith, p.queued, n.cap_queued); out_done = omega (arith, o.retired, n.out_done); cap_done = omega (arith, p.retired, n.cap_done); raised = omega (arith, n.raised) };
       } in
       rw (eo, ec, ← view) step
 
@@ -164,7 +163,14 @@ module _ (size : ℕ) (out cap : QueueState) (running : Bool) (c : Context) (vie
   pub is_taken : (new_out new_cap : QueueState) → is_claimable (Some (copier_state size new_out new_cap true)) ≡ false
   is_taken new_out new_cap = claimable_is size new_out new_cap true
 
-  pub claim_runs : (new_out new_cap : QueueState) → new_out ≡ without_job_bytes (lend_after out) → new_cap ≡ without_job_bytes (lend_after cap) → RunsWith (Some (copier_state size new_out new_cap true)) (claimed_in (Some c))
+  pub claim_runs : (new_out new_cap : QueueState) → new_out ≡ without_job_bytes (lend_after out) → new_cap ≡ without_job_bytes (lend_after cap) → RunsInWith (copier_state size new_out new_cap true) (claimed_in (Some c))
   unfolding after_claim
   claim_runs new_out new_cap eo ec =
       rw (claimed_is, eo, ec, ← view) (runs_front size out cap running out.ready cap.ready refl refl is_due.source is_due.dest)
+
+  pub source_index : (lent : Lent) (new_out : QueueState) → IsLentFrom out.ready lent → new_out ≡ without_job_bytes (lend_after out) → IsIndexOf lent.index new_out.job
+  source_index lent new_out l e =
+      rw e (index_at out out.ready lent refl is_due.source l)
+
+  pub dest_index : (lent : Lent) (new_cap : QueueState) → IsLentFrom cap.ready lent → new_cap ≡ without_job_bytes (lend_after cap) → IsIndexOf lent.index new_cap.job
+  dest_index lent new_cap l e = rw e (index_at cap cap.ready lent refl is_due.dest l)

@@ -1,22 +1,30 @@
 -- The end of the job of a copying context.
-use Rattle.std.proofs.Common.{ℕ, ◌≡◌, ◌+◌, Bool, true, false, Option, Some, None, List, [], ◌∷◌, ◌++◌, length, take, refl, sym, ap, ◌∙◌, subst}
+use Rattle.std.proofs.Common.{ℕ, ◌≡◌, ◌≤◌, ◌+◌, leb, Bool, true, false, Option, Some, None, Result, Ok, Err, List, [], ◌∷◌, ◌++◌, map, length, take, refl, sym, ap, ◌∙◌, subst, arith, leb-true, length-take}
+use Rattle.std.specs.Prelude.{min}
+use Rattle.std.proofs.lemmas.Bool.{and_parts}
 use Rattle.vc_base.specs.declared.Side.{Side}
 use Rattle.vc_base.specs.declared.Side.TheVariants.{Out, Cap}
+use Rattle.vc_base.specs.declared.Kind.TheVariants.{Copy}
 use Rattle.vc_base.specs.declared.Stamp.{Stamp}
-use Rattle.vc_base.specs.Buffers.{Buffer, QueueState, retire_from, retire_after, known_bytes, error_flag}
+use Rattle.vc_base.specs.Buffers.{Buffer, QueueState, retire_from, retire_after, known_bytes, error_flag, without_bytes}
 use Rattle.vc_model.specs.Coder.{CodecState, no_codec, encoder, decoder}
-use Rattle.vc_model.specs.Context.{Context, settle}
+use Rattle.vc_model.specs.Context.{Context, copy, encode, settle}
 use Rattle.vc_model.specs.Runs.{JobData, dest_done, RunResult, copied, encoded, decoded}
 use Rattle.vc_model.specs.Core.{BroughtBack, back_effect, finished_context}
-use Rattle.vc_queue.specs.declared.queue.Lent.{Lent}
-use Rattle.vc_core.specs.declared.job.Finished.{Finished}
-use Rattle.vc_context.specs.Contexts.{IsKept}
-use Rattle.vc_core.specs.Copying.{copier_state}
-use Rattle.vc_core.specs.Jobs.{Brings, IsReturned, IsDestReturned, IsResult, IsCopied, HasNoCodec, brought_used, brought_flags}
+use Rattle.vc_model.specs.Sound.{HasCodec, dest_count}
+use Rattle.vc_work.specs.declared.work.Work.{Work}
+use Rattle.vc_work.specs.declared.engine.Outcome.{Outcome}
+use Rattle.vc_work.specs.declared.engine.Outcome.TheVariants.{Copied, Encoded}
+use Rattle.vc_work.specs.declared.engine.EngineFault.{EngineFault}
+use Rattle.vc_work.specs.Runs.{dest_bytes}
+use Rattle.vc_context.specs.Contexts.{AreFilled, IsKept, IsStep}
+use Rattle.vc_context.specs.Works.{IsSourceBack, IsDest, HasBytes, HasFront, IsResult, IsBack, IsBackOf, RunsIn}
+use Rattle.vc_context.proofs.Going.{HasRoomFor, Goes, retired_goes, retired_ready}
+use Rattle.vc_core.specs.Copying.{copier_state, brought_used, brought_flags}
 use Rattle.vc_core.proofs.Copying.{settled}
 
 -- the codec of a copying context
-no_codec_there : (codec : CodecState) → HasNoCodec codec → codec ≡ no_codec
+no_codec_there : (codec : CodecState) → HasCodec Copy codec → codec ≡ no_codec
 no_codec_there no_codec h = refl
 no_codec_there (encoder state) h = absurd h
 no_codec_there (decoder state) h = absurd h
@@ -33,49 +41,133 @@ retired_error q (x ∷ rest) used a b stamp e =
     ap put (on_output a b q.side e)
 
 -- the destination goes to done, and no drain ends
-dest_at : (size : ℕ) (out cap : QueueState) (ds : List Buffer) (lent : Lent) (used : ℕ) (bytes : List ℕ) (flags : ℕ) (stamp : Stamp) → IsDestReturned ds lent → dest_done (copier_state size out cap false) ds true used bytes flags stamp ≡ copier_state size out (retire_after cap used bytes flags stamp) false
-dest_at size out cap [] lent used bytes flags stamp h = absurd h
-dest_at size out cap (b ∷ []) lent used bytes flags stamp h = refl
-dest_at size out cap (b ∷ (d ∷ rest)) lent used bytes flags stamp h = absurd h
+dest_at : (size : ℕ) (out cap : QueueState) (ds : List Buffer) (used : ℕ) (bytes : List ℕ) (flags : ℕ) (stamp : Stamp) → length ds ≡ 1 → dest_done (copier_state size out cap false) ds true used bytes flags stamp ≡ copier_state size out (retire_after cap used bytes flags stamp) false
+dest_at size out cap [] used bytes flags stamp h = absurd (omega (arith, h))
+dest_at size out cap (b ∷ []) used bytes flags stamp h = refl
+dest_at size out cap (b ∷ (d ∷ rest)) used bytes flags stamp h = absurd (omega (arith, h))
 
-effect_is : (size : ℕ) (out cap : QueueState) (running : Bool) (j : JobData) (result : Option RunResult) → HasNoCodec j.codec → finished_context (copier_state size out cap running) (record { job = j; result = result }) ≡ settle (back_effect (copier_state size out cap false) j result)
+effect_is : (size : ℕ) (out cap : QueueState) (running : Bool) (j : JobData) (result : Option RunResult) → HasCodec Copy j.codec → finished_context (copier_state size out cap running) (record { job = j; result = result }) ≡ settle (back_effect (copier_state size out cap false) j result)
 effect_is size out cap running j result h =
     ap (λ (codec : CodecState). settle (back_effect (record (copier_state size out cap false) { codec = codec }) j result)) (no_codec_there j.codec h)
 
-fault_is : (size : ℕ) (out cap : QueueState) (j : JobData) (lent : Lent) → IsDestReturned j.dest lent → settle (back_effect (copier_state size out cap false) j None) ≡ copier_state size (retire_after out j.source.used j.source.bytes error_flag j.source.stamp) (retire_after cap 0 [] error_flag j.source.stamp) false
-fault_is size out cap j lent h =
+fault_is : (size : ℕ) (out cap : QueueState) (j : JobData) → length j.dest ≡ 1 → settle (back_effect (copier_state size out cap false) j None) ≡ copier_state size (retire_after out j.source.used j.source.bytes error_flag j.source.stamp) (retire_after cap 0 [] error_flag j.source.stamp) false
+fault_is size out cap j h =
     let o : QueueState = retire_after out j.source.used j.source.bytes error_flag j.source.stamp in
-    ap settle (dest_at size o cap j.dest lent 0 [] error_flag j.source.stamp h) ∙ settled size o (retire_after cap 0 [] error_flag j.source.stamp) false
+    ap settle (dest_at size o cap j.dest 0 [] error_flag j.source.stamp h) ∙ settled size o (retire_after cap 0 [] error_flag j.source.stamp) false
 
-copied_is : (size : ℕ) (out cap : QueueState) (j : JobData) (lent : Lent) (bytes : List ℕ) → IsDestReturned j.dest lent → settle (back_effect (copier_state size out cap false) j (Some (copied bytes))) ≡ copier_state size (retire_after out j.source.used j.source.bytes 0 j.source.stamp) (retire_after cap (length bytes) bytes 0 j.source.stamp) false
-copied_is size out cap j lent bytes h =
+copied_is : (size : ℕ) (out cap : QueueState) (j : JobData) (bytes : List ℕ) → length j.dest ≡ 1 → settle (back_effect (copier_state size out cap false) j (Some (copied bytes))) ≡ copier_state size (retire_after out j.source.used j.source.bytes 0 j.source.stamp) (retire_after cap (length bytes) bytes 0 j.source.stamp) false
+copied_is size out cap j bytes h =
     let o : QueueState = retire_after out j.source.used j.source.bytes 0 j.source.stamp in
-    ap settle (dest_at size o cap j.dest lent (length bytes) bytes 0 j.source.stamp h) ∙ settled size o (retire_after cap (length bytes) bytes 0 j.source.stamp) false
+    ap settle (dest_at size o cap j.dest (length bytes) bytes 0 j.source.stamp h) ∙ settled size o (retire_after cap (length bytes) bytes 0 j.source.stamp) false
 
 -- The context with both buffers retired is what the finish leaves.
 
-module _ (size : ℕ) (out cap : QueueState) (f : Finished) where
-  abbrev retired : Context
-  retired =
-      copier_state size (retire_after out f.source.used (take f.source.used f.source.payload.items) (brought_flags f.outcome) f.source.stamp) (retire_after cap (brought_used f.outcome) (take (brought_used f.outcome) f.dest.payload.items) (brought_flags f.outcome) f.source.stamp) false
+module _ (size : ℕ) (out cap : QueueState) (work : Work) (payload : List ℕ) (there : dest_bytes work ≡ Some payload) where
+  abbrev retired : Result Outcome EngineFault → Context
+  retired result =
+      copier_state size (retire_after out work.source.used (take work.source.used work.source.payload.items) (brought_flags result) work.source.stamp) (retire_after cap (brought_used result) (take (brought_used result) payload) (brought_flags result) work.source.stamp) false
 
-  retired_fault : (j : JobData) → out.side ≡ Out → IsReturned j.source f.source → f.outcome ≡ None → retired ≡ copier_state size (retire_after out j.source.used j.source.bytes error_flag j.source.stamp) (retire_after cap 0 [] error_flag j.source.stamp) false
-  retired_fault j s r e =
-      rw (e, r.used, r.stamp) (ap (λ (o : QueueState). copier_state size o (retire_after cap 0 [] error_flag j.source.stamp) false) (retired_error out out.job j.source.used (take j.source.used f.source.payload.items) j.source.bytes j.source.stamp s))
+  retired_fault : (j : JobData) (fault : EngineFault) → out.side ≡ Out → IsSourceBack j.source work.source → retired (Err fault) ≡ copier_state size (retire_after out j.source.used j.source.bytes error_flag j.source.stamp) (retire_after cap 0 [] error_flag j.source.stamp) false
+  retired_fault j fault s r =
+      rw (r.used, r.stamp) (ap (λ (o : QueueState). copier_state size o (retire_after cap 0 [] error_flag j.source.stamp) false) (retired_error out out.job j.source.used (take j.source.used work.source.payload.items) j.source.bytes j.source.stamp s))
 
-  retired_copied : (j : JobData) (bytes : List ℕ) → IsReturned j.source f.source → IsCopied bytes j.source f.outcome f.source f.dest → retired ≡ copier_state size (retire_after out j.source.used j.source.bytes 0 j.source.stamp) (retire_after cap (length bytes) bytes 0 j.source.stamp) false
-  retired_copied j bytes r i =
-      rw (i.outcome, r.used, r.stamp) (ap (λ (bs : List ℕ). copier_state size (retire_after out j.source.used bs 0 j.source.stamp) (retire_after cap (length bytes) (take (length bytes) f.dest.payload.items) 0 j.source.stamp) false) i.source_bytes ∙ ap (λ (bs : List ℕ). copier_state size (retire_after out j.source.used j.source.bytes 0 j.source.stamp) (retire_after cap (length bytes) bs 0 j.source.stamp) false) i.bytes)
+  retired_copied : (j : JobData) (bytes : List ℕ) (used : ℕ) → IsSourceBack j.source work.source → HasBytes bytes j.source work used → retired (Ok (Copied used)) ≡ copier_state size (retire_after out j.source.used j.source.bytes 0 j.source.stamp) (retire_after cap (length bytes) bytes 0 j.source.stamp) false
+  retired_copied j bytes used r i =
+      let front : take (length bytes) payload ≡ bytes = subst (HasFront bytes) there i.front in
+      rw (i.told, r.used, r.stamp) (ap (λ (bs : List ℕ). copier_state size (retire_after out j.source.used bs 0 j.source.stamp) (retire_after cap (length bytes) (take (length bytes) payload) 0 j.source.stamp) false) i.source_bytes ∙ ap (λ (bs : List ℕ). copier_state size (retire_after out j.source.used j.source.bytes 0 j.source.stamp) (retire_after cap (length bytes) bs 0 j.source.stamp) false) front)
 
-  finish_at : (running : Bool) (j : JobData) (result : Option RunResult) → out.side ≡ Out → HasNoCodec j.codec → IsReturned j.source f.source → IsDestReturned j.dest f.dest → IsResult result j.source f.outcome f.source f.dest → retired ≡ finished_context (copier_state size out cap running) (record { job = j; result = result })
-  finish_at running j None s h r d i =
-      retired_fault j s r i ∙ sym (effect_is size out cap running j None h ∙ fault_is size out cap j f.dest d)
-  finish_at running j (Some (copied bytes)) s h r d i =
-      retired_copied j bytes r i ∙ sym (effect_is size out cap running j (Some (copied bytes)) h ∙ copied_is size out cap j f.dest bytes d)
-  finish_at running j (Some (encoded frame)) s h r d i = absurd i
-  finish_at running j (Some (decoded step)) s h r d i = absurd i
+  finish_at : (running : Bool) (j : JobData) (back : Option RunResult) (result : Result Outcome EngineFault) → out.side ≡ Out → HasCodec Copy j.codec → j.sort ≡ copy → length j.dest ≡ 1 → IsSourceBack j.source work.source → IsResult back j work result → retired result ≡ finished_context (copier_state size out cap running) (record { job = j; result = back })
+  finish_at running j None (Err fault) s h o d r i =
+      retired_fault j fault s r ∙ sym (effect_is size out cap running j None h ∙ fault_is size out cap j d)
+  finish_at running j None (Ok (Copied used)) s h o d r i = absurd i
+  finish_at running j None (Ok (Encoded used key)) s h o d r i = absurd i
+  finish_at running j (Some (copied bytes)) (Err fault) s h o d r i = absurd i
+  finish_at running j (Some (copied bytes)) (Ok (Copied used)) s h o d r i =
+      retired_copied j bytes used r i.1 ∙ sym (effect_is size out cap running j (Some (copied bytes)) h ∙ copied_is size out cap j bytes d)
+  finish_at running j (Some (copied bytes)) (Ok (Encoded used key)) s h o d r i = absurd i
+  finish_at running j (Some (encoded frame)) (Err fault) s h o d r i = absurd i
+  finish_at running j (Some (encoded frame)) (Ok (Copied used)) s h o d r i = absurd i
+  finish_at running j (Some (encoded frame)) (Ok (Encoded used key)) s h o d r i =
+      absurd (never_encodes (sym o ∙ i.0))
+    where
+      never_encodes : copy ≡ encode → ⊥
+      never_encodes e = cc
+  finish_at running j (Some (decoded step)) (Err fault) s h o d r i = absurd i
+  finish_at running j (Some (decoded step)) (Ok (Copied used)) s h o d r i = absurd i
+  finish_at running j (Some (decoded step)) (Ok (Encoded used key)) s h o d r i = absurd i
 
-  pub finish_gives : (running : Bool) (c : Context) (k : ℕ) (back : BroughtBack) → copier_state size out cap running ≡ c → IsKept c → Brings k back f → retired ≡ finished_context c back
-  finish_gives running c k back view kept b =
+  pub finish_gives : (running : Bool) (c : Context) (back : BroughtBack) (result : Result Outcome EngineFault) → copier_state size out cap running ≡ c → IsKept c → RunsIn c back.job → IsBack back work result → retired result ≡ finished_context c back
+  finish_gives running c back result view kept runs b =
       let s : out.side ≡ Out = (subst (λ (x : Context). IsKept x) (sym view) kept).out_side in
-      rw (← view) (finish_at running back.job back.result s b.codec b.source b.dest b.result)
+      let r : RunsIn (copier_state size out cap running) back.job = subst (λ (x : Context). RunsIn x back.job) (sym view) runs in
+      let one : length back.job.dest ≡ 1 = r.dests ∙ ap dest_count r.run.sort in
+      rw (← view) (finish_at running back.job back.result result s r.codec r.run.sort one b.source b.came_to)
+
+-- the buffers of the job go to done
+
+emptied : (q : QueueState) (bs : List Buffer) (used : ℕ) (bytes : List ℕ) (flags : ℕ) (stamp : Stamp) → q.job ≡ bs → (retire_from q bs used bytes flags stamp).job ≡ []
+emptied q [] used bytes flags stamp e = e
+emptied q (b ∷ rest) used bytes flags stamp e = refl
+
+retired_queued : (q : QueueState) (bs : List Buffer) (used : ℕ) (bytes : List ℕ) (flags : ℕ) (stamp : Stamp) → (retire_from q bs used bytes flags stamp).next_ordinal ≡ q.next_ordinal
+retired_queued q [] used bytes flags stamp = refl
+retired_queued q (b ∷ rest) used bytes flags stamp = refl
+
+only_dest : (ds bs : List Buffer) (payload : List ℕ) → length ds ≡ 1 → bs ≡ map without_bytes ds → IsDest ds (Some payload) → (b : Buffer) × (bs ≡ without_bytes b ∷ []) × (length payload ≡ b.size)
+only_dest [] bs payload n e d = absurd (omega (arith, n))
+only_dest (b ∷ []) bs payload n e d = (b, e, d)
+only_dest (b ∷ (x ∷ rest)) bs payload n e d = absurd (omega (arith, n))
+
+filled_front : (bs : List Buffer) (b : Buffer) (used : ℕ) → bs ≡ without_bytes b ∷ [] → AreFilled bs → used ≡ b.used → HasRoomFor used bs
+filled_front [] b used e f u = tt
+filled_front (x ∷ rest) b used e f u =
+    let same : x ≡ without_bytes b = cc in
+    let room : x.used ≤ x.size = leb-true x.used x.size (and_parts (leb x.used x.size) _ f).0 in
+    rw u (subst (λ (y : Buffer). y.used ≤ x.size) same room)
+
+module _ (size : ℕ) (out cap : QueueState) (running : Bool) (c : Context) (view : copier_state size out cap running ≡ c) (kept : IsKept c) (work : Work) (result : Result Outcome EngineFault) (of : IsBackOf c work result) where
+  runs : RunsIn (copier_state size out cap running) of.back.job
+  runs = subst (λ (x : Context). RunsIn x of.back.job) (sym view) of.runs
+
+  one : length of.back.job.dest ≡ 1
+  one = runs.dests ∙ ap dest_count runs.run.sort
+
+  dest_there : (payload : List ℕ) → dest_bytes work ≡ Some payload → (b : Buffer) × (cap.job ≡ without_bytes b ∷ []) × (length payload ≡ b.size)
+  dest_there payload e =
+      only_dest of.back.job.dest cap.job payload one runs.dest (subst (IsDest of.back.job.dest) e of.is_back.dest)
+
+  -- the used bytes have room
+
+  front_room : (bytes payload : List ℕ) → take (length bytes) payload ≡ bytes → length bytes ≤ length payload
+  front_room bytes payload e =
+      let n : length bytes ≡ min (length bytes) (length payload) = sym (ap length e) ∙ length-take (length bytes) payload in
+      omega (arith, n)
+
+  brought_room : (j : JobData) (back : Option RunResult) (r : Result Outcome EngineFault) (payload : List ℕ) → dest_bytes work ≡ Some payload → IsResult back j work r → brought_used r ≤ length payload
+  brought_room j back (Err fault) payload e i = omega arith
+  brought_room j None (Ok (Copied used)) payload e i = absurd i
+  brought_room j (Some (copied bytes)) (Ok (Copied used)) payload e i =
+      let n : length bytes ≤ length payload = front_room bytes payload (subst (HasFront bytes) e i.1.front) in
+      omega (arith, n, i.1.told)
+  brought_room j (Some (encoded frame)) (Ok (Copied used)) payload e i = absurd i
+  brought_room j (Some (decoded step)) (Ok (Copied used)) payload e i = absurd i
+  brought_room j back (Ok (Encoded used key)) payload e i = omega arith
+
+  dest_room : (bs : List Buffer) (b : Buffer) (used : ℕ) → bs ≡ without_bytes b ∷ [] → used ≤ b.size → HasRoomFor used bs
+  dest_room [] b used e h = tt
+  dest_room (x ∷ rest) b used e h =
+      let same : x ≡ without_bytes b = cc in
+      subst (λ (y : Buffer). used ≤ y.size) (sym same) h
+
+  pub finish_step : (payload : List ℕ) (new_out new_cap : QueueState) → dest_bytes work ≡ Some payload → new_out ≡ retire_after out work.source.used (take work.source.used work.source.payload.items) (brought_flags result) work.source.stamp → new_cap ≡ retire_after cap (brought_used result) (take (brought_used result) payload) (brought_flags result) work.source.stamp → IsStep c (copier_state size new_out new_cap false)
+  finish_step payload new_out new_cap e eo ec =
+      let k = subst (λ (x : Context). IsKept x) (sym view) kept in
+      let d = dest_there payload e in
+      let used : brought_used result ≤ length payload = brought_room of.back.job of.back.result result payload e of.is_back.came_to in
+      let o : Goes out (retire_after out work.source.used (take work.source.used work.source.payload.items) (brought_flags result) work.source.stamp) = retired_goes out work.source.used _ (brought_flags result) work.source.stamp (filled_front out.job of.back.job.source work.source.used runs.source k.job_filled of.is_back.source.used) in
+      let p : Goes cap (retire_after cap (brought_used result) (take (brought_used result) payload) (brought_flags result) work.source.stamp) = retired_goes cap (brought_used result) _ (brought_flags result) work.source.stamp (dest_room cap.job d.0 (brought_used result) d.1 (omega (arith, used, d.2))) in
+      let step : IsStep (copier_state size out cap running) (copier_state size (retire_after out work.source.used (take work.source.used work.source.payload.items) (brought_flags result) work.source.stamp) (retire_after cap (brought_used result) (take (brought_used result) payload) (brought_flags result) work.source.stamp) false) = record {
+        kept = record { out_side = o.side ∙ k.out_side; cap_side = p.side ∙ k.cap_side; filled = subst AreFilled (sym (retired_ready out out.job _ _ _ _)) k.filled; job_filled = o.job k.job_filled; out_filled = o.done k.out_filled; cap_filled = p.done k.cap_filled; out_idle = λ x. emptied out out.job _ _ _ _ refl; cap_idle = λ x. emptied cap cap.job _ _ _ _ refl };
+        counted = λ bound n. record { out_queued = omega (arith, retired_queued out out.job work.source.used (take work.source.used work.source.payload.items) (brought_flags result) work.source.stamp, n.out_queued); cap_queued = omega (arith, retired_queued cap cap.job (brought_used result) (take (brought_used result) payload) (brought_flags result) work.source.stamp, n.cap_queued); out_done = omega (arith, o.retired, n.out_done); cap_done = omega (arith, p.retired, n.cap_done); raised = omega (arith, n.raised) };
+      } in
+      rw (eo, ec, ← view) step

@@ -6,7 +6,6 @@ pub mod Finishing
 pub mod Fitting
 pub mod Moving
 pub mod Refusing
-pub mod Running
 pub mod Slots
 pub mod Stepping
 pub mod There

@@ -14,7 +14,7 @@ use Rattle.vc_model.specs.Context.{Context, Slot}
 use Rattle.vc_model.specs.Answer.{answer, closed_answer, context_answer, unless, refused}
 use Rattle.vc_model.specs.Core.{unless_memory, before_memory}
 use Rattle.vc_core.specs.Slots.{opened_kind}
-use Rattle.vc_core.specs.Steps.{TakesMemory}
+use Rattle.vc_context.specs.Contexts.{TakesMemory}
 
 pub busy_before : (c : Context) (t : Bool) → option_map Refused (refuse_if t Busy None) ≡ unless_memory (unless c (refuse_if t Busy None) (refused c NoMem)).reply
 busy_before c true = refl

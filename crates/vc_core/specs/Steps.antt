@@ -1,7 +1,6 @@
 -- The steps of a core.
 use Rattle.std.specs.Prelude.{ℕ, ◌≡◌, Bool, true, false, get_or, length, None, List}
 use Rattle.vc_base.specs.declared.Call.{Call}
-use Rattle.vc_base.specs.declared.Call.TheVariants.{Open, ReqBufs, CreateBufs}
 use Rattle.vc_base.specs.declared.Reply.{Reply}
 use Rattle.vc_base.specs.declared.Reply.TheVariants.{Refused}
 use Rattle.vc_base.specs.declared.Errno.TheVariants.{NoMem}
@@ -36,10 +35,3 @@ pub record IsCore (slots : List Slot) (jobs : Jobs) (steps : ℕ) : Type 0 where
   pub listed : (k : ℕ) → waits jobs.waiting k ≡ true → is_claimable (slot_at slots k) ≡ true
   pub kept : (k : ℕ) → IsKeptSlot (slot_at slots k)
   pub counted : (k : ℕ) → IsCountedSlot steps (slot_at slots k)
-
--- the calls that take memory
-abbrev pub TakesMemory : Call → Type 0
-TakesMemory (Open kind) = Unit {0}
-TakesMemory (ReqBufs side count) = Unit {0}
-TakesMemory (CreateBufs side count size) = Unit {0}
-TakesMemory request = ⊥

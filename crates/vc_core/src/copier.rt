@@ -3,34 +3,35 @@
 //! It has one pixel format, `DATA`, of the same size on both sides. It has no controls, events or commands,
 //! so a drain never begins and jobs may always run.
 
-ghost use Rattle.std.specs.Prelude.{◌≡◌, ◌<◌, ◌^◌, ℕ, not, ◌&&◌, is_some, min, true, false, None, Some, List, [], slice_get};
+ghost use Rattle.std.specs.Prelude.{◌≡◌, ◌≤◌, ◌<◌, ◌^◌, ℕ, not, ◌&&◌, is_some, min, true, false, vec_len, None, Some, List, [], slice_get};
 ghost use Rattle.vc_base.specs.declared.Kind.TheVariants.{Copy};
-ghost use Rattle.vc_base.specs.declared.Errno.TheVariants.{NoTty, Inval};
-ghost use Rattle.vc_base.specs.declared.Reply.TheVariants.{Done, Count, Created, Refused};
 ghost use Rattle.vc_base.specs.declared.Call.TheVariants.{ReqBufs, CreateBufs, QBuf, DqBuf, StreamOff};
-ghost use Rattle.vc_base.specs.Buffers.{querybuf_reply, reqbufs_refusal, create_refusal};
-ghost use Rattle.std.specs.Option.{option_map};
-ghost use Rattle.vc_queue.specs.Growing.{cannot_grow};
+ghost use Rattle.vc_base.specs.Buffers.{querybuf_reply};
 ghost use Rattle.vc_queue.specs.Holds.{HoldState};
+ghost use Rattle.vc_work.specs.Runs.{Fits};
 ghost use Rattle.vc_model.specs.Formats.{formats_for, formats_listed, clamp, size_or};
 ghost use Rattle.vc_model.specs.Context.{queue_of, fresh_context};
 ghost use Rattle.vc_model.specs.Answer.{desc_answer, format_answer, try_answer, set_refusal, set_answer, reqbufs_answer, create_answer, query_answer, qbuf_answer, dqbuf_answer, streamon_answer, streamoff_answer, context_answer, unchanged, readiness};
 ghost use Rattle.vc_model.specs.Core.{BroughtBack, finished_context, claimed_in, unless_memory};
-ghost use Rattle.vc_core.specs.Steps.{TakesMemory};
-ghost use Rattle.vc_model.specs.Runs.{is_claimable, after_claim};
+ghost use Rattle.vc_model.specs.Runs.{JobData, is_claimable, after_claim};
 ghost use Rattle.vc_model.specs.Standing.{without_job};
-ghost use Rattle.vc_context.specs.Contexts.{HasRoom, Gives, GivesWithMemory, IsKept, IsStep, is_close, told_of, refused_or_blocked, taken_or_blocked, has_work};
-ghost use Rattle.vc_core.specs.Copying.{data_bytes, data_formats};
-ghost use Rattle.vc_core.specs.Jobs.{IsJobWith, RunsWith, Brings, RunsIn, IsOfContext, brought_used, brought_flags};
+ghost use Rattle.vc_context.specs.Contexts.{HasRoom, Gives, GivesWithMemory, IsKept, IsStep, TakesMemory, is_close};
 ghost use Rattle.vc_context.specs.Payloads.{FitsContext, Moves, handed_over};
+ghost use Rattle.vc_context.specs.Works.{IsWork, IsWorkWith, RunsIn, RunsInWith, IsBack, IsBackOf};
+ghost use Rattle.vc_core.specs.Copying.{data_bytes, data_formats, IsGiven, brought_used, brought_flags};
 
-use crate::job::{Finished, Job};
 use std::alloc::Global;
 use std::marker::Model;
 use vc_base::{Call, Errno, Format, Fourcc, Reply, Side, Stamp};
+use vc_context::jobs::{dest_back, dest_of, source_back, source_of};
+use vc_context::refusals::{create_refusal, has_work, reqbufs_refusal};
+use vc_context::replies::{
+    counted, created, no_command, nothing_such, refused_or_blocked, taken_or_blocked, told,
+    told_or_refused,
+};
 use vc_queue::hold::Hold;
-use vc_queue::queue::Queue;
-use vc_work::Outcome;
+use vc_queue::queue::{Lent, Queue};
+use vc_work::{EngineFault, Outcome, Rates, Sort, Work};
 
 /// The size of a buffer at Open, and where none is asked for.
 const USUAL_SIZE: u32 = 4096;
@@ -38,31 +39,31 @@ const USUAL_SIZE: u32 = 4096;
 /// The greatest size of a buffer.
 const GREATEST_SIZE: u32 = 17694720;
 
-/// The length of the longest buffer.
-const LONGEST_BUFFER: u32 = 17694764;
-
-/// The most buffers of a queue.
-const MOST_BUFFERS: u32 = 32;
-
 /// The flag of a buffer that came back without its result.
 const ERROR: u32 = 0x40;
 
-/// A copying context: the size of its buffers, its queues, and whether a job of it runs.
+/// A copying context: the size of its buffers, its queues, whether a job of it runs, and the indices of the
+/// two buffers in the job.
 #[derive(Drop)]
 pub(crate) struct Copier {
     size: u32,
     out: Queue,
     cap: Queue,
     running: bool,
+    source: u32,
+    dest: u32,
 }
 
 impl Model for Copier {
     ghost use Rattle.vc_model.specs.Context.{Context};
+    ghost use Rattle.vc_context.specs.Works.{IsIndexOf};
     ghost use Rattle.vc_core.specs.Copying.{copier_state};
 
     ghost Value = { Context };
 
     ghost view = { λ c. copier_state c.size c.out c.cap c.running };
+
+    ghost invariant = { λ c. IsIndexOf c.source c.out.job × IsIndexOf c.dest c.cap.job };
 }
 
 /// The format with buffers of that size.
@@ -85,60 +86,6 @@ fn size_set(asked: u32) -> u32
     size.min(GREATEST_SIZE).max(1)
 }
 
-/// The reply of a call that has nothing to tell.
-fn told(answer: Result<(), Errno>) -> Reply
-    ensures { result ≡ told_of (λ _. Done) answer }
-{
-    match answer {
-        Ok(()) => Reply::Done,
-        Err(errno) => Reply::Refused { errno },
-    }
-}
-
-/// The reply where a call is refused; where there is nothing to take, waiting helps.
-fn refused_or_blocked(block: bool, errno: Errno) -> Reply
-    ensures { result ≡ refused_or_blocked block errno }
-{
-    match errno {
-        Errno::Again | Errno::NoEnt if block => Reply::Blocked,
-        errno => Reply::Refused { errno },
-    }
-}
-
-/// Whether a queue streams and has a ready buffer.
-fn has_work(queue: &Queue) -> bool
-    ensures { result ≡ has_work queue.now }
-{
-    queue.is_streaming() && queue.front_ordinal().is_some()
-}
-
-/// What ReqBufs answers before memory is sought.
-fn reqbufs_refusal(queue: &Queue) -> Option<Reply>
-    ensures { result ≡ option_map Refused (reqbufs_refusal queue.now) }
-{
-    if queue.is_streaming() {
-        return Some(Reply::Refused { errno: Errno::Busy });
-    }
-    None
-}
-
-/// Whether a queue of so many buffers cannot get `count` more of that length.
-fn cannot_grow(buffers: u32, count: u32, length: u32) -> bool
-    ensures { result ≡ cannot_grow buffers count length }
-{
-    length < 1 || LONGEST_BUFFER < length || (0 < count && buffers == MOST_BUFFERS)
-}
-
-/// What CreateBufs answers before memory is sought.
-fn create_refusal(queue: &Queue, count: u32, length: u32) -> Option<Reply>
-    ensures { result ≡ option_map Refused (create_refusal queue.now count length) }
-{
-    if cannot_grow(queue.buffers(), count, length) {
-        return Some(nothing_such());
-    }
-    None
-}
-
 /// Whether a job is due: none runs, and both queues have work.
 fn is_due(running: bool, source: bool, dest: bool) -> bool
     ensures { result ≡ (not running && (source && dest)) }
@@ -146,71 +93,37 @@ fn is_due(running: bool, source: bool, dest: bool) -> bool
     !running && source && dest
 }
 
-/// The used bytes and the flags of a buffer that comes back from a run, or from one that was given up.
-fn brought(outcome: Option<Outcome>) -> (u32, u32)
-    ensures { result ≡ (brought_used outcome, brought_flags outcome) }
+/// The used bytes and the flags of the destination after a copy run, or where there was none.
+fn brought(outcome: &Result<Outcome, EngineFault>) -> (u32, u32)
+    ensures { result ≡ (brought_used outcome.now, brought_flags outcome.now) }
 {
-    match outcome {
-        Some(Outcome::Copied { used } | Outcome::Encoded { used, .. }) => (used, 0),
-        None => (0, ERROR),
+    match *outcome {
+        Ok(Outcome::Copied { used }) => (used, 0),
+        _ => (0, ERROR),
     }
 }
 
-/// The reply to a command: a copying context has none.
-fn no_command() -> Reply
-    ensures { result ≡ Refused NoTty }
+/// The work of a copy run from one buffer to the other.
+fn copy_work(source: Lent, dest: Lent, format: Format) -> Work
+    requires filled { source.used ≤ vec_len source.payload }
+    ensures work { (j : JobData) → IsGiven j source dest format → IsWork j result }
+    ensures fits { Fits result }
 {
-    Reply::Refused {
-        errno: Errno::NoTty,
-    }
-}
-
-/// The reply to a call on an event or a control: a copying context has none.
-fn nothing_such() -> Reply
-    ensures { result ≡ Refused Inval }
-{
-    Reply::Refused {
-        errno: Errno::Inval,
-    }
-}
-
-/// The reply of ReqBufs.
-fn counted(answer: Result<u32, Errno>) -> Reply
-    ensures { result ≡ told_of Count answer }
-{
-    match answer {
-        Ok(count) => Reply::Count { count },
-        Err(errno) => Reply::Refused { errno },
-    }
-}
-
-/// The reply of CreateBufs.
-fn created(answer: Result<(u32, u32), Errno>) -> Reply
-    ensures { result ≡ told_of (λ a. Created a.0 a.1) answer }
-{
-    match answer {
-        Ok((index, count)) => Reply::Created { index, count },
-        Err(errno) => Reply::Refused { errno },
-    }
-}
-
-/// The reply of a call that tells of a buffer.
-fn told_or_refused(answer: Result<Reply, Errno>) -> Reply
-    ensures { result ≡ told_of (λ reply. reply) answer }
-{
-    match answer {
-        Ok(reply) => reply,
-        Err(errno) => Reply::Refused { errno },
-    }
-}
-
-/// The reply of a call that takes a buffer, or waits for one.
-fn taken_or_blocked(block: bool, answer: Result<Reply, Errno>) -> Reply
-    ensures { result ≡ taken_or_blocked block answer }
-{
-    match answer {
-        Ok(reply) => reply,
-        Err(errno) => refused_or_blocked(block, errno),
+    let limit = format.size;
+    let rates = Rates {
+        gop: 10,
+        iqp: 20,
+        pqp: 20,
+    };
+    Work {
+        sort: Sort::Copy,
+        source: source_of(source),
+        dest: Some(dest_of(dest)),
+        reference: None,
+        geometry: None,
+        format,
+        limit,
+        rates,
     }
 }
 
@@ -224,6 +137,8 @@ impl Copier {
             out: Queue::new(Side::Out),
             cap: Queue::new(Side::Cap),
             running: false,
+            source: 0,
+            dest: 0,
         }
     }
 
@@ -304,7 +219,7 @@ impl Copier {
     }
 
     /// Whether a job can be claimed.
-    pub(crate) fn is_claimable(&self) -> bool
+    pub(crate) fn ready(&self) -> bool
         ensures { result ≡ is_claimable (Some self.now) }
     {
         let source = has_work(&self.out);
@@ -507,40 +422,41 @@ impl Copier {
     }
 
     /// Takes the front buffers of both queues into a job.
-    pub(crate) fn claim(&mut self, slot: u32) -> Job
+    pub(crate) fn claim(&mut self) -> Work
         requires kept { IsKept self.old }
         requires due { is_claimable (Some self.old) ≡ true }
         ensures after { self.new ≡ without_job (after_claim self.old) }
         ensures step { IsStep self.old self.new }
-        ensures job { IsJobWith slot (claimed_in (Some self.old)) result }
+        ensures work { IsWorkWith (claimed_in (Some self.old)) result }
+        ensures fits { Fits result }
         ensures taken { is_claimable (Some self.new) ≡ false }
-        ensures runs { RunsWith (Some self.new) (claimed_in (Some self.old)) }
+        ensures runs { RunsInWith self.new (claimed_in (Some self.old)) }
         ensures holds { (hold : HoldState) → FitsContext self.old hold → FitsContext self.new hold }
     {
         let source = self.out.lend();
         let dest = self.cap.lend();
         self.running = true;
-        Job::copying(slot, source, dest, data_format(self.size))
+        self.source = source.index;
+        self.dest = dest.index;
+        copy_work(source, dest, data_format(self.size))
     }
 
     /// Takes the buffers of a job back: they go to done.
-    pub(crate) fn finish(&mut self, finished: Finished)
+    pub(crate) fn finish(&mut self, work: Work, outcome: Result<Outcome, EngineFault>)
         requires kept { IsKept self.old }
         requires room { HasRoom self.old }
-        requires back { IsOfContext self.old finished }
-        ensures after { (k : ℕ) (back : BroughtBack) → RunsIn self.old back.job → Brings k back finished → self.new ≡ finished_context self.old back }
+        requires back { IsBackOf self.old work outcome }
+        ensures after { (back : BroughtBack) → RunsIn self.old back.job → IsBack back work outcome → self.new ≡ finished_context self.old back }
         ensures holds { (hold : HoldState) → FitsContext self.old hold → FitsContext self.new hold }
         ensures step { IsStep self.old self.new }
     {
-        let Finished {
-            slot: _,
-            source,
-            dest,
-            outcome,
-        } = finished;
-        let (used, flags) = brought(outcome);
+        let (used, flags) = brought(&outcome);
+        let Work { source, dest, .. } = work;
+        let Some(payload) = dest else { unreachable!() };
         let stamp = source.stamp;
         let source_used = source.used;
+        let source = source_back(self.source, source);
+        let dest = dest_back(self.dest, payload);
         self.out.retire(source, source_used, flags, stamp);
         self.cap.retire(dest, used, flags, stamp);
         self.running = false;

@@ -5,8 +5,9 @@ ghost use Rattle.vc_model.specs.Devices.{slot_of, job_of, steps_of};
 ghost use Rattle.vc_model.specs.Core.{BroughtBack, new_core, core_claim, core_finish, core_shut, claimed_job, before_memory};
 ghost use Rattle.vc_core.specs.Jobs.{Brings, HasJob, IsClaim, IsJobOfWorker, IsOfWorker};
 ghost use Rattle.vc_queue.specs.Holds.{HoldState};
+ghost use Rattle.vc_context.specs.Contexts.{TakesMemory};
 ghost use Rattle.vc_context.specs.Payloads.{FitsSlot, Moves};
-ghost use Rattle.vc_core.specs.Steps.{IsCall, TakesMemory};
+ghost use Rattle.vc_core.specs.Steps.{IsCall};
 
 use crate::job::{Finished, Job};
 use crate::slot::Slot;

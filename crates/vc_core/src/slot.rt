@@ -6,20 +6,20 @@ ghost use Rattle.vc_base.specs.declared.Errno.TheVariants.{NoMem};
 ghost use Rattle.vc_base.specs.declared.Call.TheVariants.{Open, Close};
 ghost use Rattle.vc_model.specs.Core.{BroughtBack, claimed_in, before_memory, unless_memory};
 ghost use Rattle.vc_model.specs.Answer.{closed_answer};
-ghost use Rattle.vc_core.specs.Steps.{TakesMemory};
 ghost use Rattle.vc_model.specs.Runs.{is_claimable};
 ghost use Rattle.vc_model.specs.Context.{fresh_context};
-ghost use Rattle.vc_context.specs.Contexts.{is_close};
+ghost use Rattle.vc_context.specs.Contexts.{TakesMemory, is_close};
 ghost use Rattle.vc_core.specs.Slots.{IsKeptSlot, IsStepOfSlot, SlotHasRoom, IsAnswer, opened_kind, claimed_slot, finished_slot};
 ghost use Rattle.vc_core.specs.Jobs.{IsJobWith, RunsWith, IsOfSlot, RunsInSlot, Brings};
 ghost use Rattle.vc_queue.specs.Holds.{HoldState};
 ghost use Rattle.vc_context.specs.Payloads.{FitsSlot, Moves, handed_over};
 
 use crate::copier::Copier;
-use crate::job::{Finished, Job};
+use crate::job::{Finished, FitWork, Job};
 use std::alloc::Global;
 use std::marker::Model;
 use vc_base::{Call, Errno, Kind, Reply};
+use vc_context::replies::no_memory;
 use vc_queue::hold::Hold;
 
 /// What a slot has. Contexts that encode and decode become further variants.
@@ -70,15 +70,6 @@ fn closed_refusal(call: &Call) -> Option<Reply>
         None => Some(Reply::Refused {
             errno: Errno::NoTty,
         }),
-    }
-}
-
-/// The reply where no memory is found.
-fn no_memory() -> Reply
-    ensures { result ≡ Refused NoMem }
-{
-    Reply::Refused {
-        errno: Errno::NoMem,
     }
 }
 
@@ -187,7 +178,7 @@ impl Slot {
     {
         match &self.content {
             Content::Closed => false,
-            Content::Copying(copier) => copier.is_claimable(),
+            Content::Copying(copier) => copier.ready(),
         }
     }
 
@@ -205,7 +196,10 @@ impl Slot {
         let Content::Copying(copier) = &mut self.content else {
             unreachable!()
         };
-        copier.claim(slot)
+        Job {
+            slot,
+            work: FitWork::new(copier.claim()),
+        }
     }
 
     /// Takes a job back.
@@ -220,6 +214,6 @@ impl Slot {
         let Content::Copying(copier) = &mut self.content else {
             unreachable!()
         };
-        copier.finish(finished);
+        copier.finish(finished.work, finished.outcome);
     }
 }

@@ -1,5 +1,5 @@
 use Rattle.vc_core.proofs.Copying.{dqbuf_out, dqbuf_cap}
-use Rattle.vc_core.proofs.Stepping.{dqbuf_step, dqbuf_step_cap}
+use Rattle.vc_core.proofs.Stepping.{dqbuf_step, dqbuf_goes, cap_step}
 use Rattle.vc_core.proofs.Moving.{moves_out, moves_cap, other_fits_out, other_fits_cap}
 use Rattle.vc_core.proofs.copier.Copier.dqbuf.Goals as goal
 
@@ -25,7 +25,7 @@ returns-in-Cap-clause-answers c =
 
 pub returns-in-Cap-clause-step : goal.returns-in-Cap-clause-step
 returns-in-Cap-clause-step c =
-    dqbuf_step_cap c.self.inside.size c.self.inside.out c.self.inside.cap c.self.inside.running c.args.self.now c.self.view_is c.requires.kept _ _ c.dqbuf-in-Cap.ensures.after
+    cap_step c.self.inside.size c.self.inside.out c.self.inside.cap c.self.inside.running c.args.self.now c.self.view_is c.requires.kept _ (dqbuf_goes c.self.inside.cap _ _ c.dqbuf-in-Cap.ensures.after)
 
 pub returns-in-Cap-clause-moves : goal.returns-in-Cap-clause-moves
 returns-in-Cap-clause-moves c =
@@ -34,3 +34,11 @@ returns-in-Cap-clause-moves c =
 pub returns-in-Cap-clause-fit : goal.returns-in-Cap-clause-fit
 returns-in-Cap-clause-fit c =
     other_fits_cap c.self.inside.size c.self.inside.out c.self.inside.cap c.self.inside.running c.args.self.now c.self.view_is c.requires.kept _ _ _ _ c.dqbuf-in-Cap.ensures.payload c.requires.fits c.dqbuf-in-Cap.ensures.fit
+
+pub invariant_of-self : goal.invariant_of-self
+invariant_of-self c =
+    ((dqbuf_goes c.self.inside.out _ _ c.dqbuf.ensures.after).index c.self.inside.source c.self.invariant.0, c.self.invariant.1)
+
+pub invariant_of-self-in-Cap : goal.invariant_of-self-in-Cap
+invariant_of-self-in-Cap c =
+    (c.self.invariant.0, (dqbuf_goes c.self.inside.cap _ _ c.dqbuf-in-Cap.ensures.after).index c.self.inside.dest c.self.invariant.1)

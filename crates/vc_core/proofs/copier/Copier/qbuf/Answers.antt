@@ -1,5 +1,5 @@
 use Rattle.vc_core.proofs.Copying.{qbuf_out, qbuf_cap}
-use Rattle.vc_core.proofs.Stepping.{qbuf_step}
+use Rattle.vc_core.proofs.Stepping.{qbuf_step, qbuf_goes, cap_step}
 use Rattle.vc_core.proofs.copier.Copier.qbuf.Goals as goal
 
 pub returns-in-Out-clause-answers : goal.returns-in-Out-clause-answers
@@ -13,3 +13,15 @@ returns-in-Cap-clause-answers c =
 pub returns-in-Out-clause-step : goal.returns-in-Out-clause-step
 returns-in-Out-clause-step c =
     qbuf_step c.self.inside.size c.self.inside.out c.self.inside.cap c.self.inside.running c.args.self.now c.self.view_is c.requires.kept c.args.index c.args.used c.self.inside.size c.args.stamp _ _ c.qbuf.ensures.after
+
+pub returns-in-Cap-clause-step : goal.returns-in-Cap-clause-step
+returns-in-Cap-clause-step c =
+    cap_step c.self.inside.size c.self.inside.out c.self.inside.cap c.self.inside.running c.args.self.now c.self.view_is c.requires.kept _ (qbuf_goes c.self.inside.cap _ c.args.index c.args.used c.args.stamp _ _ c.qbuf-in-Cap.ensures.after)
+
+pub invariant_of-self : goal.invariant_of-self
+invariant_of-self c =
+    ((qbuf_goes c.self.inside.out _ c.args.index c.args.used c.args.stamp _ _ c.qbuf.ensures.after).index c.self.inside.source c.self.invariant.0, c.self.invariant.1)
+
+pub invariant_of-self-in-Cap : goal.invariant_of-self-in-Cap
+invariant_of-self-in-Cap c =
+    (c.self.invariant.0, (qbuf_goes c.self.inside.cap _ c.args.index c.args.used c.args.stamp _ _ c.qbuf-in-Cap.ensures.after).index c.self.inside.dest c.self.invariant.1)

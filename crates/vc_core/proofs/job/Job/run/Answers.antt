@@ -1,8 +1,6 @@
-use Rattle.std.proofs.Common.{arith, ◌≤◌, length}
-use Rattle.vc_core.proofs.Running.{run_brings}
+use Rattle.vc_context.proofs.Running.{runs_are_back}
 use Rattle.vc_core.proofs.job.Job.run.Goals as goal
 
 pub returns-clause-done : goal.returns-clause-done
 returns-clause-done g c k j h =
-    let filled : c.args.self.work.source.used ≤ length c.args.self.work.source.payload.items = omega (arith, c.args.self.filled, c.args.self.work.source.payload.ok.0) in
-    run_brings k j c.args.self c.run.new.work c.bring.result h filled c.run.ensures.lengths c.ok-outcome.result c.bring.ensures c.run.result c.ok-outcome.ensures.value c.run.ensures.outcome
+    record { slot = h.slot; is_back = runs_are_back j c.work.inside.work c.run-outcome.new.work c.run-outcome.result (rw c.work.view_is h.work) c.work.invariant c.run-outcome.ensures.lengths c.run-outcome.ensures.outcome }

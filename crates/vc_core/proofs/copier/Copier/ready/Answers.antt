@@ -2,7 +2,7 @@ use Rattle.std.proofs.Common.{sym, ap, ◌∙◌, Some}
 use Rattle.vc_model.specs.Context.{Context}
 use Rattle.vc_model.specs.Runs.{is_claimable}
 use Rattle.vc_core.proofs.Claiming.{claimable_is}
-use Rattle.vc_core.proofs.copier.Copier.is_claimable.Goals as goal
+use Rattle.vc_core.proofs.copier.Copier.ready.Goals as goal
 
 pub returns : goal.returns
 returns c =
