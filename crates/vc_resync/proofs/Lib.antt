@@ -1,0 +1,9 @@
+pub mod Matching
+pub mod Putting
+pub mod Taking
+pub mod Collecting
+pub mod Filling
+pub mod Composing
+pub mod Stamping
+pub mod Answering
+pub mod Keeping
