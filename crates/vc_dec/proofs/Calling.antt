@@ -12,20 +12,30 @@ use Rattle.vc_queue.specs.Answers.{after_of}
 use Rattle.vc_context.specs.Contexts.{AreFilled}
 use Rattle.vc_dec.specs.Decoders.{AllLengths}
 
--- The queue counts up, its buffer in the job stays there, no buffer comes or goes, and what is done has room for what is used
--- of it.
-pub record Calls (old new : QueueState) : Type 0 where
+-- The queue counts up, its buffer in the job stays there, and what is done has room for what is used of it.
+pub record Counts (old new : QueueState) : Type 0 where
   pub queued : new.next_ordinal ≤ old.next_ordinal + 1
   pub retired : new.next_seq ≤ old.next_seq
   pub job : new.job ≡ old.job
   pub done : AreFilled old.done → AreFilled new.done
+
+-- The queue counts up, and no buffer comes or goes.
+pub record Calls (old new : QueueState) : Type 0 where
+  pub counts : Counts old new
   pub gone : buffer_count new ≡ 0 → buffer_count old ≡ 0
   pub some : 0 < buffer_count new → 0 < buffer_count old
   pub lengths : (p : ℕ → Bool) → AllLengths p old → AllLengths p new
 
+pub no_change : (q : QueueState) → Counts q q
+no_change q = record { queued = omega arith; retired = omega arith; job = refl; done = λ h. h }
+
+pub after_counts : (o : Option Errno) (q r : QueueState) → Counts q r → Counts q (after_of o q r)
+after_counts (Some e) q r c = no_change q
+after_counts None q r c = c
+
 pub stays : (q : QueueState) → Calls q q
 stays q =
-    record { queued = omega arith; retired = omega arith; job = refl; done = λ h. h; gone = λ h. h; some = λ h. h; lengths = λ p a. a }
+    record { counts = no_change q; gone = λ h. h; some = λ h. h; lengths = λ p a. a }
 
 pub after_calls : (o : Option Errno) (q r : QueueState) → Calls q r → Calls q (after_of o q r)
 after_calls (Some e) q r c = stays q
@@ -34,10 +44,7 @@ after_calls None q r c = c
 pub on_calls : (q : QueueState) → Calls q (streamon_after q)
 on_calls q =
     record {
-      queued = omega arith;
-      retired = omega arith;
-      job = refl;
-      done = λ h. h;
+      counts = record { queued = omega arith; retired = omega arith; job = refl; done = λ h. h };
       gone = λ h. h;
       some = λ h. h;
       lengths = λ p a. record { held = a.held; ready = a.ready; job = a.job; done = a.done };
@@ -61,10 +68,7 @@ off_calls q =
     let l3 = length_back q.ready in
     let l4 = length_back q.done in
     record {
-      queued = omega arith;
-      retired = omega arith;
-      job = refl;
-      done = λ h. refl;
+      counts = record { queued = omega arith; retired = omega arith; job = refl; done = λ h. refl };
       gone = λ h. omega arith;
       some = λ h. omega arith;
       lengths = λ p a. record {
@@ -81,10 +85,7 @@ taken_calls q (b ∷ rest) e =
     let l1 = length-append q.held (held_again b ∷ []) in
     let l2 = ap length e in
     record {
-      queued = omega arith;
-      retired = omega arith;
-      job = refl;
-      done = λ h. (and_parts (nat_le b.used b.size) (list_all (λ x. nat_le x.used x.size) rest) (subst AreFilled e h)).1;
+      counts = record { queued = omega arith; retired = omega arith; job = refl; done = λ h. (and_parts (nat_le b.used b.size) (list_all (λ x. nat_le x.used x.size) rest) (subst AreFilled e h)).1 };
       gone = λ h. omega arith;
       some = λ h. omega arith;
       lengths = λ p a. let d = and_parts (p b.size) (list_all (λ x. p x.size) rest) (subst (λ (bs : List Buffer). list_all (λ x. p x.size) bs ≡ true) e a.done) in record {
@@ -128,10 +129,7 @@ queued_calls q index (Some b) used stamp bytes e =
     let l2 = found_some q.held index b e in
     let s : x.size ≡ b.size = queued_size q.side b used stamp bytes q.next_ordinal in
     record {
-      queued = omega arith;
-      retired = omega arith;
-      job = refl;
-      done = λ h. h;
+      counts = record { queued = omega arith; retired = omega arith; job = refl; done = λ h. h };
       gone = λ h. absurd (omega arith);
       some = λ h. omega arith;
       lengths = λ p a. record {

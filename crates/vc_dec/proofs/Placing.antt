@@ -1,5 +1,5 @@
 -- A context that is in its place stays so at every call, and settles as its queues do.
-use Rattle.std.proofs.Common.{ℕ, ◌≡◌, Bool, true, false, ◌&&◌, Option, Some, None, List, [], ◌∷◌, map, length, refl, sym, ap, ◌∙◌, subst}
+use Rattle.std.proofs.Common.{ℕ, ◌≡◌, Bool, true, false, ◌&&◌, Option, Some, None, List, [], ◌∷◌, map, length, refl, sym, ap, ◌∙◌, subst, arith}
 use Rattle.std.specs.Prelude.{is_none}
 use Rattle.std.specs.Option.{option_map}
 use Rattle.vc_base.specs.declared.Side.TheVariants.{Out, Cap}
@@ -113,3 +113,37 @@ runs c p e =
     let w : Context = p.whole in
     let busy : is_none w.running ≡ false = sym (whole_running w w.running refl) ∙ (ap (λ (x : Context). is_none x.running) p.without ∙ e) in
     subst (λ (x : Context). is_run x.phase ≡ true) p.without (whole_runs w w.running p.ordered.firm.has_buffers busy)
+
+-- a queue that does not stream has nothing in the job
+
+two_ways : {A : Type 0} → (bs : List Buffer) → bs ≡ [] → length bs ≡ 1 → A
+two_ways bs e l =
+    let n : length bs ≡ 0 = ap length e in absurd (omega (arith, n, l))
+
+whole_out_rests : (w : Context) (o : Option Running) → w.running ≡ o → HasItsBuffers w o → IsSoundButUnsettled w → w.out.streams ≡ false → (is_none (without_data_of w o).running ≡ true) × ((without_data_of w o).out.job ≡ [])
+whole_out_rests w None e h f s = (ap is_none e, h.0)
+whole_out_rests w (Some r) e h f s = two_ways w.out.job (f.out.job_at_rest s) h.1
+
+same_streams : (w : Context) (o : Option Running) → (without_data_of w o).out.streams ≡ w.out.streams
+same_streams w None = refl
+same_streams w (Some r) = refl
+
+pub out_rests : (c : Context) → IsPlaced c → c.out.streams ≡ false → (is_none c.running ≡ true) × (c.out.job ≡ [])
+out_rests c p s =
+    let w : Context = p.whole in
+    let t : w.out.streams ≡ false = sym (same_streams w w.running) ∙ (ap (λ (x : Context). x.out.streams) p.without ∙ s) in
+    subst (λ (x : Context). (is_none x.running ≡ true) × (x.out.job ≡ [])) p.without (whole_out_rests w w.running refl p.ordered.firm.has_buffers p.ordered.firm t)
+
+whole_cap_rests : (w : Context) (o : Option Running) → IsSoundButUnsettled w → w.cap.streams ≡ false → (without_data_of w o).cap.job ≡ []
+whole_cap_rests w None f s = f.cap.job_at_rest s
+whole_cap_rests w (Some r) f s = ap (map without_bytes) (f.cap.job_at_rest s)
+
+same_cap_streams : (w : Context) (o : Option Running) → (without_data_of w o).cap.streams ≡ w.cap.streams
+same_cap_streams w None = refl
+same_cap_streams w (Some r) = refl
+
+pub cap_rests : (c : Context) → IsPlaced c → c.cap.streams ≡ false → c.cap.job ≡ []
+cap_rests c p s =
+    let w : Context = p.whole in
+    let t : w.cap.streams ≡ false = sym (same_cap_streams w w.running) ∙ (ap (λ (x : Context). x.cap.streams) p.without ∙ s) in
+    subst (λ (x : Context). x.cap.job ≡ []) p.without (whole_cap_rests w w.running p.ordered.firm t)

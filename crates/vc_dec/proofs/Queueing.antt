@@ -29,7 +29,7 @@ use Rattle.vc_dec.specs.declared.Decoder.TheInside.{Inside}
 use Rattle.vc_dec.specs.Decoders.{decoder_state, IsDecoder, IsPlaced, events_settled}
 use Rattle.vc_dec.proofs.Calling.{Calls, queued_calls, taken_calls}
 use Rattle.vc_dec.proofs.Placing.{sides}
-use Rattle.vc_dec.proofs.Serving.{Turns, turns_out, turns_cap, turns_after, JobsStay, jobs_stay, settle_at, still_at, same_jobs, quiet_here, agree_here, place, keeps, steps, gives_call, keeps_call, steps_call}
+use Rattle.vc_dec.proofs.Serving.{Turns, turns_out, turns_cap, turns_after, counted, JobsStay, jobs_stay, settle_at, still_at, same_jobs, quiet_here, agree_here, place, keeps, steps, gives_call, keeps_call, steps_call}
 
 -- QBuf on CAPTURE does not look at the bytes
 
@@ -59,9 +59,9 @@ queued_turns p Cap index used least stamp bytes s h =
 
 queued_jobs : (p : PairState) (side : Side) (index used : ℕ) (stamp : Stamp) (bytes : List ℕ) → JobsStay p (queued p side index used stamp bytes)
 queued_jobs p Out index used stamp bytes =
-    record { out = (queued_calls_at p.out index used stamp bytes).job; cap = refl }
+    record { out = (queued_calls_at p.out index used stamp bytes).counts.job; cap = refl }
 queued_jobs p Cap index used stamp bytes =
-    record { out = refl; cap = (queued_calls_at p.cap index used stamp bytes).job }
+    record { out = refl; cap = (queued_calls_at p.cap index used stamp bytes).counts.job }
 
 moved_cases : (c : Context) (o : Option Errno) (side : Side) (index used : ℕ) (stamp : Stamp) (old new : HoldState) → new ≡ after_of o old (with_payload old side index None) → Moves (Some c) (QBuf side index used stamp) (told_of {A = Unit {0}} (λ _. Done) (answer_of o tt)) old new
 moved_cases c (Some e) side index used stamp old new h = h
@@ -223,7 +223,7 @@ module _ (d : Inside) (c : Context) (view : decoder_state (pair_of d.formats) d.
 
     pub dqbuf_steps : IsKept c → IsStep c (to new es)
     dqbuf_steps k =
-        subst (λ (x : Context). IsStep x (to new es)) view (steps (pair_of d.formats) d.geometry d.pair d.events d.codec d.job inv mid new es turns_taken en ee (pair_of d.formats) d.geometry d.codec.state placed (subst IsKept (sym view) k))
+        subst (λ (x : Context). IsStep x (to new es)) view (steps (pair_of d.formats) d.geometry d.pair d.events d.codec d.job inv mid new es (counted d.pair mid turns_taken) en ee (pair_of d.formats) d.geometry d.codec.state placed (subst IsKept (sym view) k))
 
     pub dqbuf_moves : (old after : HoldState) → IsKept c → HandsBack (dqbuf_refusal (queue_at d.pair side) (is_ended_at d.pair side)) side (queue_at d.pair side).done old after → Moves (Some c) (DqBuf side block) reply old after
     dqbuf_moves old after k h =
@@ -232,7 +232,7 @@ module _ (d : Inside) (c : Context) (view : decoder_state (pair_of d.formats) d.
   pub dqbuf_room : (side : Side) (mid : PairState) → mid ≡ after_of (dqbuf_refusal (queue_at d.pair side) (is_ended_at d.pair side)) d.pair (pair_taken d.pair side) → HasRoom c → mid.cap.next_seq < 2 ^ 62
   dqbuf_room side mid em r =
       let t : Turns d.pair mid = subst (λ (x : PairState). Turns d.pair x) (sym em) (turns_after (dqbuf_refusal (queue_at d.pair side) (is_ended_at d.pair side)) d.pair (pair_taken d.pair side) (λ _. taken_turns d.pair side)) in
-      let n = t.cap.retired in
+      let n = t.cap.counts.retired in
       let m : d.pair.cap.next_seq < 2 ^ 62 = (subst (λ (x : Context). HasRoom x) (sym view) r).cap_done in
       omega arith
 

@@ -22,7 +22,7 @@ use Rattle.vc_dec.specs.declared.Decoder.TheInside.{Inside}
 use Rattle.vc_dec.specs.Decoders.{decoder_state, IsDecoder, IsPlaced, events_settled}
 use Rattle.vc_dec.specs.Serving.{Serves}
 use Rattle.vc_dec.proofs.Calling.{on_calls}
-use Rattle.vc_dec.proofs.Serving.{Turns, turns_out, turns_cap, turns_after, jobs_stay, still, with_after, ended_at, quiet_here, agree_here, place, keeps, serve, keeps_call, serves_call}
+use Rattle.vc_dec.proofs.Serving.{Turns, turns_out, turns_cap, turns_after, counted, jobs_stay, still, with_after, ended_at, quiet_here, agree_here, place, keeps, serve, keeps_call, serves_call}
 
 on_turns : (p : PairState) (side : Side) → Turns p (with_queue_at p side (streamon_after (queue_at p side)))
 on_turns p Out = turns_out p (streamon_after p.out) (on_calls p.out) (λ h. h)
@@ -114,7 +114,7 @@ module _ (d : Inside) (c : Context) (view : decoder_state (pair_of d.formats) d.
 
     pub command_serves : q.out ≡ d.pair.out → q.cap ≡ d.pair.cap → IsKept (at d.pair d.events) → Serves (context_answer (at d.pair d.events) request [] true) reply (at d.pair d.events) (at new es)
     command_serves eo ec k =
-        serve (pair_of d.formats) d.geometry d.pair d.events d.codec d.job inv mid new es command_turns en ee (pair_of d.formats) d.geometry d.codec.state command_placed (context_answer (at d.pair d.events) request [] true) reply k command_gives (λ hold f. subst (λ (x : PairState). FitsBoth x hold) (sym em) (fits_after o hold eo ec f))
+        serve (pair_of d.formats) d.geometry d.pair d.events d.codec d.job inv mid new es (counted d.pair mid command_turns) en ee (pair_of d.formats) d.geometry d.codec.state command_placed (context_answer (at d.pair d.events) request [] true) reply k command_gives (λ hold f. subst (λ (x : PairState). FitsBoth x hold) (sym em) (fits_after o hold eo ec f))
 
   stop_answers : AnswersWith (context_answer (at d.pair d.events) (DecCmd 1) [] true) (at d.pair d.events) (stop_refusal d.pair) (pair_marked d.pair)
   unfolding context_answer
@@ -129,7 +129,7 @@ module _ (d : Inside) (c : Context) (view : decoder_state (pair_of d.formats) d.
   pub start_room : (mid : PairState) → mid ≡ after_of (start_refusal d.pair d.formats.cap.size) d.pair (pair_started d.pair) → HasRoom c → mid.cap.next_seq < 2 ^ 62
   start_room mid em r =
       let t : Turns d.pair mid = subst (λ (x : PairState). Turns d.pair x) (sym em) (turns_after (start_refusal d.pair d.formats.cap.size) d.pair (pair_started d.pair) (λ _. started_turns d.pair)) in
-      let n = t.cap.retired in
+      let n = t.cap.counts.retired in
       let m : d.pair.cap.next_seq < 2 ^ 62 = (subst (λ (x : Context). HasRoom x) (sym view) r).cap_done in
       omega arith
 

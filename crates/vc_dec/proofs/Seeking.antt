@@ -1,5 +1,5 @@
 -- StreamOff.
-use Rattle.std.proofs.Common.{◌≡◌, ◌<◌, ◌^◌, Bool, true, false, cond, Option, Some, None, List, [], ◌++◌, refl, sym, ap, subst, arith}
+use Rattle.std.proofs.Common.{◌≡◌, Bool, true, false, cond, Option, Some, None, List, [], ◌++◌, refl, sym, ap, subst}
 use Rattle.std.specs.Prelude.{is_some}
 use Rattle.std.proofs.lemmas.Bool.{false≢true}
 use Rattle.vc_base.specs.declared.Side.{Side}
@@ -24,7 +24,7 @@ use Rattle.vc_dec.specs.declared.InJob.{InJob}
 use Rattle.vc_dec.specs.declared.Decoder.TheInside.{Inside}
 use Rattle.vc_dec.specs.Decoders.{CodecParts, decoder_state, IsDecoder, IsPlaced, IsPictureOf, events_settled, sought_anew}
 use Rattle.vc_dec.proofs.Calling.{off_calls}
-use Rattle.vc_dec.proofs.Serving.{Turns, turns_out, turns_cap, settle_at, same_jobs, agree_here, place, steps, knows_so, gone_so, supplied_so, served_so}
+use Rattle.vc_dec.proofs.Serving.{Turns, counted, turns_out, turns_cap, settle_at, same_jobs, agree_here, place, steps, knows_so, gone_so, supplied_so, served_so}
 
 -- StreamOff on the queues
 
@@ -68,7 +68,7 @@ module _ (d : Inside) (c : Context) (view : decoder_state (pair_of d.formats) d.
   agree_off : JobsAgree (decoder_state (pair_of d.formats) d.geometry (pair_off d.pair side) d.events (sought_anew side d.codec.state) d.job)
   agree_off =
       let t = off_turns d.pair side in
-      same_jobs (pair_of d.formats) d.geometry d.codec.state d.job d.pair (pair_off d.pair side) d.events t.out.job t.cap.job (agree_here (pair_of d.formats) d.geometry d.pair d.events d.codec d.job inv)
+      same_jobs (pair_of d.formats) d.geometry d.codec.state d.job d.pair (pair_off d.pair side) d.events t.out.counts.job t.cap.counts.job (agree_here (pair_of d.formats) d.geometry d.pair d.events d.codec d.job inv)
 
   off_gives_here : Gives (streamoff_answer before side) Done then
   off_gives_here =
@@ -92,7 +92,7 @@ module _ (d : Inside) (c : Context) (view : decoder_state (pair_of d.formats) d.
 
   pub off_steps : IsKept c → IsStep c then
   off_steps k =
-      subst (λ (x : Context). IsStep x then) view (steps (pair_of d.formats) d.geometry d.pair d.events d.codec d.job inv mid new es off_turns_mid en ee (pair_of d.formats) d.geometry codec.state off_placed (subst IsKept (sym view) k))
+      subst (λ (x : Context). IsStep x then) view (steps (pair_of d.formats) d.geometry d.pair d.events d.codec d.job inv mid new es (counted d.pair mid off_turns_mid) en ee (pair_of d.formats) d.geometry codec.state off_placed (subst IsKept (sym view) k))
 
   picture_cases : (s : Side) → IsPictureOf d.geometry (sought_anew s d.codec.state).reference
   picture_cases Out = tt
@@ -112,7 +112,7 @@ module _ (d : Inside) (c : Context) (view : decoder_state (pair_of d.formats) d.
         placed = placed;
         picture = picture_cases side;
         fresh = λ z. fresh_cases side (inv.fresh (gone z));
-        knows = knows_so (pair_of d.formats) d.geometry d.pair d.events d.codec d.job inv mid new es off_turns_mid en ee (pair_of d.formats) d.geometry codec.state off_placed;
+        knows = knows_so (pair_of d.formats) d.geometry d.pair d.events d.codec d.job inv mid new es (counted d.pair mid off_turns_mid) en ee (pair_of d.formats) d.geometry codec.state off_placed;
         supplied = supplied_so (pair_of d.formats) d.geometry d.pair d.events d.codec d.job inv mid new es off_turns_mid en ee;
         served = served_so (pair_of d.formats) d.geometry d.pair d.events d.codec d.job inv mid new es off_turns_mid en ee;
       })
@@ -124,9 +124,3 @@ module _ (d : Inside) (c : Context) (view : decoder_state (pair_of d.formats) d.
   pub off_moves : (old hold : HoldState) → AllGoToUser side ((queue_at d.pair side).ready ++ (queue_at d.pair side).done) old hold → Moves (Some c) (StreamOff side) Done old hold
   off_moves old hold g =
       subst (λ (x : Context). AllGoToUser side (given_back (Some x) side) old hold) view (subst (λ (l : List Buffer). AllGoToUser side l old hold) (sym (given_cases side)) g)
-
-pub off_room : (p mid : PairState) (side : Side) → mid ≡ pair_off p side → p.cap.next_seq < 2 ^ 62 → mid.cap.next_seq < 2 ^ 62
-off_room p mid side em n =
-    let t : Turns p mid = subst (λ (x : PairState). Turns p x) (sym em) (off_turns p side) in
-    let m = t.cap.retired in
-    omega arith

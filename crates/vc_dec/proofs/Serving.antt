@@ -26,14 +26,23 @@ use Rattle.vc_dec.specs.declared.InJob.{InJob}
 use Rattle.vc_dec.specs.Decoders.{CodecParts, decoder_state, job_mark, IsDecoder, IsPlaced, KnowsItsJob, IsDestOf, IsSupplied, AreServed, lent_room, end_raised, events_settled}
 use Rattle.vc_dec.specs.Serving.{Serves}
 use Rattle.vc_dec.proofs.Placing.{placed_answer, agrees, settled, sides, runs}
-use Rattle.vc_dec.proofs.Calling.{Calls, stays}
+use Rattle.vc_dec.proofs.Calling.{Counts, Calls, stays}
 use Rattle.vc_dec.proofs.Settled.{Settles, settles, stays_in_run, ended_raised}
 
--- what a call makes of the two queues
+-- how a call counts in the two queues
+pub record CountsBoth (old new : PairState) : Type 0 where
+  pub out : Counts old.out new.out
+  pub cap : Counts old.cap new.cap
+  pub filled : AreFilled old.out.ready → AreFilled new.out.ready
+
+-- what a call makes of the two queues, where no buffer comes or goes
 pub record Turns (old new : PairState) : Type 0 where
   pub out : Calls old.out new.out
   pub cap : Calls old.cap new.cap
   pub filled : AreFilled old.out.ready → AreFilled new.out.ready
+
+pub counted : (p q : PairState) → Turns p q → CountsBoth p q
+counted p q t = record { out = t.out.counts; cap = t.cap.counts; filled = t.filled }
 
 pub still : (p q : PairState) → q.out ≡ p.out → q.cap ≡ p.cap → Turns p q
 still p q eo ec =
@@ -53,7 +62,7 @@ pub record JobsStay (old new : PairState) : Type 0 where
   pub cap : new.cap.job ≡ old.cap.job
 
 pub jobs_stay : (p q : PairState) → Turns p q → JobsStay p q
-jobs_stay p q t = record { out = t.out.job; cap = t.cap.job }
+jobs_stay p q t = record { out = t.out.counts.job; cap = t.cap.counts.job }
 
 pub turns_out : (p : PairState) (r : QueueState) → Calls p.out r → (AreFilled p.out.ready → AreFilled r.ready) → Turns p (record p { out = r })
 turns_out p r c f = record { out = c; cap = stays p.cap; filled = f }
@@ -72,7 +81,7 @@ knows_cases None p new eo ec k = tt
 knows_cases (Some x) p new eo ec k =
     (ap (λ (bs : List Buffer). map (λ b. b.index) bs) eo ∙ k.0, subst (λ (bs : List Buffer). IsDestOf x.dest bs) (sym (ec refl)) k.1)
 
-supplied_cases : (j : Option InJob) (size : ℕ) (out new : QueueState) (limit : Option ℕ) → (0 < buffer_count new → 0 < buffer_count out) → IsSupplied size out limit j → IsSupplied size new limit j
+pub supplied_cases : (j : Option InJob) (size : ℕ) (out new : QueueState) (limit : Option ℕ) → (0 < buffer_count new → 0 < buffer_count out) → IsSupplied size out limit j → IsSupplied size new limit j
 supplied_cases None size out new limit f s = λ h. s (f h)
 supplied_cases (Some x) size out new limit f s = tt
 
@@ -120,23 +129,13 @@ module _ (formats : FormatPair) (geometry : Option Geometry) (p : PairState) (ev
   pub place : (request : Call) (bytes : List ℕ) (found : Bool) (reply : Reply) (then : Context) → Gives (context_answer before request bytes found) reply then → IsPlaced then
   place request bytes found reply then g = placed_answer before then request bytes found inv.placed g.context
 
-  module _ (q new : PairState) (es : EventState) (t : Turns p q) (en : new ≡ pair_settled q) (ee : es ≡ events_settled q events) where
-    settled_so : Settles q new
+  module _ (q new : PairState) (es : EventState) (t : CountsBoth p q) (en : new ≡ pair_settled q) (ee : es ≡ events_settled q events) where
+    pub settled_so : Settles q new
     settled_so = subst (λ (x : PairState). Settles q x) (sym en) (settles q)
 
     raised_so : es.next_seq ≤ events.next_seq + 1
     raised_so =
         subst (λ (x : EventState). x.next_seq ≤ events.next_seq + 1) (sym ee) (ended_raised (raises_end q) events)
-
-    pub gone_so : buffer_count new.out ≡ 0 → buffer_count p.out ≡ 0
-    gone_so z = t.out.gone (subst (λ (x : QueueState). buffer_count x ≡ 0) settled_so.out z)
-
-    pub supplied_so : IsSupplied formats.out.size new.out parts.limit job
-    supplied_so =
-        supplied_cases job formats.out.size p.out new.out parts.limit (λ h. t.out.some (subst (λ (x : QueueState). 0 < buffer_count x) settled_so.out h)) inv.supplied
-
-    pub served_so : AreServed (lent_room job ++ parts.rooms) new.cap
-    served_so = settled_so.lengths _ (t.cap.lengths _ inv.served)
 
     -- whatever becomes of formats, geometry and codec
     module _ (f : FormatPair) (g : Option Geometry) (state : DecoderState) (placed : IsPlaced (decoder_state f g new es state job)) where
@@ -188,6 +187,20 @@ module _ (formats : FormatPair) (geometry : Option Geometry) (p : PairState) (ev
       serve answer reply k given h =
           record { gives = given; step = steps k; holds = λ hold c. holding hold (h hold) c }
 
+  module _ (q new : PairState) (es : EventState) (t : Turns p q) (en : new ≡ pair_settled q) (ee : es ≡ events_settled q events) where
+    settles_so : Settles q new
+    settles_so = settled_so q new es (counted p q t) en ee
+
+    pub gone_so : buffer_count new.out ≡ 0 → buffer_count p.out ≡ 0
+    gone_so z = t.out.gone (subst (λ (x : QueueState). buffer_count x ≡ 0) settles_so.out z)
+
+    pub supplied_so : IsSupplied formats.out.size new.out parts.limit job
+    supplied_so =
+        supplied_cases job formats.out.size p.out new.out parts.limit (λ h. t.out.some (subst (λ (x : QueueState). 0 < buffer_count x) settles_so.out h)) inv.supplied
+
+    pub served_so : AreServed (lent_room job ++ parts.rooms) new.cap
+    served_so = settles_so.lengths _ (t.cap.lengths _ inv.served)
+
     pub keeps : IsPlaced (after new es) → IsDecoder formats geometry new es parts job
     keeps placed =
         record {
@@ -196,7 +209,7 @@ module _ (formats : FormatPair) (geometry : Option Geometry) (p : PairState) (ev
           placed = placed;
           picture = inv.picture;
           fresh = λ z. inv.fresh (gone_so z);
-          knows = knows_so formats geometry parts.state placed;
+          knows = knows_so q new es (counted p q t) en ee formats geometry parts.state placed;
           supplied = supplied_so;
           served = served_so;
         }
@@ -217,7 +230,7 @@ module _ (formats : FormatPair) (geometry : Option Geometry) (p : PairState) (ev
     keeps_call = keeps mid new es turns_call en ee placed_call
 
     pub steps_call : IsKept before → IsStep before (after new es)
-    steps_call k = steps mid new es turns_call en ee formats geometry parts.state placed_call k
+    steps_call k = steps mid new es (counted p mid turns_call) en ee formats geometry parts.state placed_call k
 
     fits_cases : (w : Option Errno) (hold : HoldState) → (FitsBoth p hold → FitsBoth q hold) → FitsBoth p hold → FitsBoth (after_of w p q) hold
     fits_cases (Some e) hold g k = k
@@ -229,4 +242,4 @@ module _ (formats : FormatPair) (geometry : Option Geometry) (p : PairState) (ev
 
     pub serves_call : IsKept before → ((hold : HoldState) → FitsBoth p hold → FitsBoth q hold) → Serves (context_answer before request bytes found) reply before (after new es)
     serves_call k h =
-        serve mid new es turns_call en ee formats geometry parts.state placed_call (context_answer before request bytes found) reply k gives_call (λ hold f. fits_call hold (h hold) f)
+        serve mid new es (counted p mid turns_call) en ee formats geometry parts.state placed_call (context_answer before request bytes found) reply k gives_call (λ hold f. fits_call hold (h hold) f)

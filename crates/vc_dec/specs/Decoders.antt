@@ -1,5 +1,5 @@
 -- A decoder context (docs/DEVICE.md, "One context"; "Memory-to-Memory Stateful Video Decoder Interface").
-use Rattle.std.specs.Prelude.{ℕ, ◌≡◌, ◌<◌, ◌==◌, Bool, true, if◌then◌else◌, map, Option, Some, None, List, [], ◌∷◌, ◌++◌}
+use Rattle.std.specs.Prelude.{ℕ, ◌≡◌, ◌<◌, ◌==◌, Bool, true, if◌then◌else◌, map, Option, Some, None, List, [], ◌∷◌, ◌++◌, ◌&&◌, false}
 use Rattle.std.specs.List.{list_all, list_any}
 use Rattle.vc_base.specs.declared.Kind.TheVariants.{Dec}
 use Rattle.vc_base.specs.declared.Side.{Side}
@@ -14,7 +14,10 @@ use Rattle.vc_model.specs.Context.{Context, Running}
 use Rattle.vc_model.specs.Sound.{HasGeometry, IsOrdered}
 use Rattle.vc_model.specs.Standing.{some_job, without_job}
 use Rattle.vc_geom.specs.Pairs.{CanStand}
-use Rattle.vc_pair.specs.Pairs.{PairState, raises_end}
+use Rattle.vc_pair.specs.declared.Phase.{Phase}
+use Rattle.vc_pair.specs.declared.Phase.TheVariants.{Run, Owe, Last, Stopped}
+use Rattle.vc_pair.specs.Pairs.{PairState, raises_end, is_due}
+use Rattle.vc_context.specs.Contexts.{has_work}
 use Rattle.vc_dec.specs.declared.Dest.{Dest}
 use Rattle.vc_dec.specs.declared.InJob.{InJob}
 
@@ -127,3 +130,14 @@ sought_anew Cap state = state
 abbrev pub geometry_after : Side → Option Geometry → Option Geometry
 geometry_after Out geometry = None
 geometry_after Cap geometry = geometry
+
+abbrev pub is_run_alone : Phase → Bool
+is_run_alone Run = true
+is_run_alone Owe = false
+is_run_alone Last = false
+is_run_alone Stopped = false
+
+-- the queues have work: for a probe while the geometry is unknown, and then for a run
+abbrev pub is_job_due : Option Geometry → PairState → Bool
+is_job_due None p = p.out.streams && is_due p.out.ready p.mark
+is_job_due (Some geometry) p = has_work p.out && has_work p.cap
