@@ -1,13 +1,13 @@
 //! A slot of the device: it is closed, or has a context.
 
-ghost use Rattle.std.specs.Prelude.{◌≡◌, ℕ, true, false, Some, None, List, [], IfSome};
-ghost use Rattle.vc_base.specs.declared.Reply.TheVariants.{Refused};
-ghost use Rattle.vc_base.specs.declared.Errno.TheVariants.{NoMem};
+ghost use Rattle.std.specs.Prelude.{◌≡◌, ℕ, true, false, is_some, Some, None, List, [], IfSome};
+ghost use Rattle.std.specs.Option.{option_map};
+ghost use Rattle.vc_base.specs.declared.Kind.TheVariants.{Copy};
 ghost use Rattle.vc_base.specs.declared.Call.TheVariants.{Open, Close};
 ghost use Rattle.vc_model.specs.Core.{BroughtBack, claimed_in, before_memory, unless_memory};
 ghost use Rattle.vc_model.specs.Answer.{closed_answer};
 ghost use Rattle.vc_model.specs.Runs.{is_claimable};
-ghost use Rattle.vc_model.specs.Context.{fresh_context};
+ghost use Rattle.vc_model.specs.Context.{Context, fresh_context};
 ghost use Rattle.vc_context.specs.Contexts.{TakesMemory, is_close};
 ghost use Rattle.vc_core.specs.Slots.{IsKeptSlot, IsStepOfSlot, SlotHasRoom, IsAnswer, opened_kind, claimed_slot, finished_slot};
 ghost use Rattle.vc_core.specs.Jobs.{IsJobWith, RunsWith, IsOfSlot, RunsInSlot, Brings};
@@ -15,7 +15,7 @@ ghost use Rattle.vc_queue.specs.Holds.{HoldState};
 ghost use Rattle.vc_context.specs.Payloads.{FitsSlot, Moves, handed_over};
 
 use crate::copier::Copier;
-use crate::job::{Finished, FitWork, Job};
+use crate::job::{Finished, Job};
 use std::alloc::Global;
 use std::marker::Model;
 use vc_base::{Call, Errno, Kind, Reply};
@@ -96,8 +96,9 @@ impl Slot {
         if is_close(call) {
             return self.close(hold);
         }
-        if let Content::Copying(copier) = &mut self.content {
-            return copier.answer(alloc, call, hold);
+        match &mut self.content {
+            Content::Closed => {}
+            Content::Copying(copier) => return copier.answer(alloc, call, hold),
         }
         match opened_kind(call) {
             Some(kind) => self.open(alloc, kind),
@@ -107,20 +108,25 @@ impl Slot {
         }
     }
 
+    /// A slot with a fresh copying context, where memory for it is found.
+    fn copying(alloc: Global) -> Option<Slot>
+        ensures { IfSome result (λ slot. slot ≡ Some (fresh_context Copy)) }
+    {
+        let Ok(copier) = Box::new(alloc, Copier::new()) else {
+            return None;
+        };
+        Some(Slot {
+            content: Content::Copying(copier),
+        })
+    }
+
     /// A slot with a fresh context, where memory for it is found. There are no contexts yet that encode or
     /// decode: these find none.
     fn opened(alloc: Global, kind: Kind) -> Option<Slot>
         ensures { IfSome result (λ slot. slot ≡ Some (fresh_context kind)) }
     {
         match kind {
-            Kind::Copy => {
-                let Ok(copier) = Box::new(alloc, Copier::new()) else {
-                    return None;
-                };
-                Some(Slot {
-                    content: Content::Copying(copier),
-                })
-            }
+            Kind::Copy => Slot::copying(alloc),
             Kind::Enc => None,
             Kind::Dec => None,
         }
@@ -148,17 +154,27 @@ impl Slot {
         ensures moves { Moves self.old Close result hold.old hold.new }
         ensures fit { FitsSlot self.new hold.new }
     {
-        let Content::Copying(copier) = &self.content else {
+        let Some(running) = self.running() else {
             return Reply::Refused {
                 errno: Errno::NoTty,
             };
         };
-        if copier.is_running() {
+        if running {
             return Reply::Blocked;
         }
         *self = Slot::new();
         *hold = Hold::new();
         Reply::Done
+    }
+
+    /// Whether a job of the slot runs, where it has a context.
+    fn running(&self) -> Option<bool>
+        ensures { result ≡ option_map (λ (c : Context). is_some c.running) self.now }
+    {
+        match &self.content {
+            Content::Closed => None,
+            Content::Copying(copier) => Some(copier.is_running()),
+        }
     }
 
     /// What Open, ReqBufs or CreateBufs answers before memory is sought.
@@ -193,12 +209,9 @@ impl Slot {
         ensures runs { RunsWith self.new (claimed_in self.old) }
         ensures holds { (hold : HoldState) → FitsSlot self.old hold → FitsSlot self.new hold }
     {
-        let Content::Copying(copier) = &mut self.content else {
-            unreachable!()
-        };
-        Job {
-            slot,
-            work: FitWork::new(copier.claim()),
+        match &mut self.content {
+            Content::Closed => unreachable!(),
+            Content::Copying(copier) => Job::new(slot, copier.claim()),
         }
     }
 
@@ -211,9 +224,14 @@ impl Slot {
         ensures holds { (hold : HoldState) → FitsSlot self.old hold → FitsSlot self.new hold }
         ensures step { IsStepOfSlot self.old self.new }
     {
-        let Content::Copying(copier) = &mut self.content else {
-            unreachable!()
-        };
-        copier.finish(finished.work, finished.outcome);
+        let Finished {
+            slot: _,
+            work,
+            outcome,
+        } = finished;
+        match &mut self.content {
+            Content::Closed => unreachable!(),
+            Content::Copying(copier) => copier.finish(work, outcome),
+        }
     }
 }

@@ -16,8 +16,8 @@ returns-in-Copying-clause-answers c =
 
 pub returns-in-Some-clause-fit : goal.returns-in-Some-clause-fit
 returns-in-Some-clause-fit c =
-    opened_fits c.args.self.now c.open.new.self c.in-Some.kind c.open.result c.args.hold.now (closed_view c.self.inside.content c.args.self.now c.self.view_is c.in_default.is) (subst (λ (x : Slot). IsAnswer x (Open c.in-Some.kind) [] c.open.result c.open.new.self) c.self.view_is c.open.ensures.answers) c.requires.fits
+    opened_fits c.args.self.now c.open.new.self c.in-Some.kind c.open.result c.args.hold.now (closed_view c.self.inside.content c.args.self.now c.self.view_is c.in-Closed.is) (subst (λ (x : Slot). IsAnswer x (Open c.in-Some.kind) [] c.open.result c.open.new.self) c.self.view_is c.open.ensures.answers) c.requires.fits
 
 pub returns-in-None-clause-answers : goal.returns-in-None-clause-answers
 returns-in-None-clause-answers c =
-    subst (λ (x : Slot). IsAnswer c.args.self.now c.args.call.now (handed_over c.args.call.now c.args.hold.now) (Refused NoTty) x) (sym c.self.view_is) (closed_refuses c.args.self.now c.args.call.now (handed_over c.args.call.now c.args.hold.now) (closed_view c.self.inside.content c.args.self.now c.self.view_is c.in_default.is) (sym c.opened_kind.ensures ∙ c.in-None.is))
+    subst (λ (x : Slot). IsAnswer c.args.self.now c.args.call.now (handed_over c.args.call.now c.args.hold.now) (Refused NoTty) x) (sym c.self.view_is) (closed_refuses c.args.self.now c.args.call.now (handed_over c.args.call.now c.args.hold.now) (closed_view c.self.inside.content c.args.self.now c.self.view_is c.in-Closed.is) (sym c.opened_kind.ensures ∙ c.in-None.is))

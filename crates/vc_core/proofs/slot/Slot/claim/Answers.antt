@@ -3,7 +3,7 @@ use Rattle.vc_core.proofs.slot.Slot.claim.Goals as goal
 
 pub unreachable-requires : goal.unreachable-requires
 unreachable-requires c =
-    never_due c.self.inside.content c.args.self.now c.self.view_is c.in_default.is c.requires.due
+    never_due c.self.inside.content c.args.self.now c.self.view_is c.in-Closed.is c.requires.due
 
 pub returns-clause-holds : goal.returns-clause-holds
 returns-clause-holds c hold f =

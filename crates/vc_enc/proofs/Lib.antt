@@ -1,0 +1,12 @@
+pub mod Answering
+pub mod Calls
+pub mod Claiming
+pub mod Effects
+pub mod Ending
+pub mod Going
+pub mod Queueing
+pub mod Quiet
+pub mod Requesting
+pub mod Serving
+pub mod Settled
+pub mod Stopping

@@ -1,0 +1,3 @@
+pub mod Encoders
+pub mod Serving
+pub mod Works

@@ -1,0 +1,193 @@
+//! Jobs: when one is due, what it takes along, and what its end does.
+
+ghost use Rattle.std.specs.Prelude.{◌≡◌, ◌&&◌, not, Some, is_some, true, false};
+ghost use Rattle.vc_defs.specs.Laws.{AreRates};
+ghost use Rattle.vc_model.specs.Context.{is_run};
+ghost use Rattle.vc_model.specs.Core.{BroughtBack, finished_context, claimed_in};
+ghost use Rattle.vc_model.specs.Runs.{JobData, is_claimable, after_claim};
+ghost use Rattle.vc_model.specs.Standing.{without_job};
+ghost use Rattle.vc_queue.specs.Holds.{HoldState};
+ghost use Rattle.vc_work.specs.Runs.{Fits, run_rates};
+ghost use Rattle.vc_context.specs.Contexts.{HasRoom, IsKept, IsStep};
+ghost use Rattle.vc_context.specs.Payloads.{FitsContext};
+ghost use Rattle.vc_context.specs.Works.{IsWork, IsWorkWith, RunsIn, RunsInWith, IsBack, IsBackOf};
+ghost use Rattle.vc_enc.specs.Works.{IsGiven, CanEncode, end_of};
+
+use crate::settling::raise_end;
+use crate::streaming::begin_anew_where;
+use crate::{Encoder, InJob};
+use vc_base::{Format, Side};
+use vc_context::jobs::{dest_back, dest_of, source_back, source_of};
+use vc_context::refusals::has_work;
+use vc_ctrl::Controls;
+use vc_pair::{Pair, Phase};
+use vc_queue::queue::Lent;
+use vc_work::{EngineFault, Outcome, Rates, Reference, Sort, Work};
+
+/// The flag of a buffer with an I frame.
+const KEYFRAME: u32 = 0x8;
+
+/// The flag of a buffer with a P frame.
+const PFRAME: u32 = 0x10;
+
+/// The flag of a buffer that came back without its result.
+const ERROR: u32 = 0x40;
+
+/// What a run that came to its end, or was given up, leaves of its buffers.
+#[derive(Clone, Copy, Debug, PartialEq, Eq)]
+struct RunEnd {
+    /// How many bytes of the destination are used.
+    used: u32,
+    source_flags: u32,
+    dest_flags: u32,
+    /// Whether the engine gave up.
+    fault: bool,
+}
+
+/// What is left of the buffers after a run of an encoder. A fault has no frame.
+fn end_of(outcome: &Result<Outcome, EngineFault>) -> RunEnd
+    ensures { result ≡ end_of outcome.now }
+{
+    match *outcome {
+        Ok(Outcome::Encoded { used, key }) => RunEnd {
+            used,
+            source_flags: 0,
+            dest_flags: if key { KEYFRAME } else { PFRAME },
+            fault: false,
+        },
+        _ => RunEnd {
+            used: 0,
+            source_flags: ERROR,
+            dest_flags: ERROR,
+            fault: true,
+        },
+    }
+}
+
+/// The rates that the controls ask for now.
+fn rates_of(controls: &Controls) -> Rates
+    ensures rates { run_rates result ≡ controls.now }
+    ensures range { AreRates (run_rates result) }
+{
+    Rates {
+        gop: controls.gop(),
+        iqp: controls.iqp(),
+        pqp: controls.pqp(),
+    }
+}
+
+/// The work of a run that encodes the picture of one buffer into the other.
+fn encode_work(
+    source: Lent,
+    dest: Lent,
+    reference: Option<Reference>,
+    format: Format,
+    rates: Rates,
+) -> Work
+    requires { CanEncode source dest reference format rates }
+    ensures work { (j : JobData) → IsGiven j source dest reference format rates → IsWork j result }
+    ensures fits { Fits result }
+{
+    let limit = format.size;
+    Work {
+        sort: Sort::Encode,
+        source: source_of(source),
+        dest: Some(dest_of(dest)),
+        reference,
+        geometry: None,
+        format,
+        limit,
+        rates,
+    }
+}
+
+/// Whether jobs may run.
+fn may_run(pair: &Pair) -> bool
+    ensures { result ≡ is_run pair.now.phase }
+{
+    match pair.phase() {
+        Phase::Run => true,
+        Phase::Owe | Phase::Last | Phase::Stopped => false,
+    }
+}
+
+/// Whether a job is due: none runs, one may, and both queues have work.
+fn is_due(running: bool, source: bool, dest: bool, may_run: bool) -> bool
+    ensures { result ≡ (not running && ((source && dest) && may_run)) }
+{
+    !running && source && dest && may_run
+}
+
+impl Encoder {
+    /// Whether a job of the context runs.
+    pub fn is_running(&self) -> bool
+        ensures { result ≡ is_some self.now.running }
+    {
+        self.job.is_some()
+    }
+
+    /// Whether a job can be claimed: none runs, both queues stream and have a ready buffer, and the
+    /// context is not stopped.
+    pub fn ready(&self) -> bool
+        ensures { result ≡ is_claimable (Some self.now) }
+    {
+        let source = has_work(self.pair.queue(Side::Out));
+        let dest = has_work(self.pair.queue(Side::Cap));
+        let may_run = may_run(&self.pair);
+        is_due(self.job.is_some(), source, dest, may_run)
+    }
+
+    /// Takes the front buffers of both queues, and what the codec keeps, into a job.
+    pub fn claim(&mut self) -> Work
+        requires kept { IsKept self.old }
+        requires due { is_claimable (Some self.old) ≡ true }
+        ensures after { self.new ≡ without_job (after_claim self.old) }
+        ensures step { IsStep self.old self.new }
+        ensures work { IsWorkWith (claimed_in (Some self.old)) result }
+        ensures fits { Fits result }
+        ensures taken { is_claimable (Some self.new) ≡ false }
+        ensures runs { RunsInWith self.new (claimed_in (Some self.old)) }
+        ensures holds { (hold : HoldState) → FitsContext self.old hold → FitsContext self.new hold }
+    {
+        let source = self.pair.lend(Side::Out);
+        let dest = self.pair.lend(Side::Cap);
+        self.job = Some(InJob {
+            source: source.index,
+            dest: dest.index,
+        });
+        let reference = self.reference.take();
+        let rates = rates_of(&self.controls);
+        encode_work(source, dest, reference, self.formats.out, rates)
+    }
+
+    /// Takes the work of the running job back. Its buffers go to done, and the codec goes on from the frame,
+    /// or after a fault begins anew. The frame that ends a drain has LAST, and its end is told by an event.
+    pub fn finish(&mut self, work: Work, outcome: Result<Outcome, EngineFault>)
+        requires kept { IsKept self.old }
+        requires room { HasRoom self.old }
+        requires back { IsBackOf self.old work outcome }
+        ensures after { (back : BroughtBack) → RunsIn self.old back.job → IsBack back work outcome → self.new ≡ finished_context self.old back }
+        ensures holds { (hold : HoldState) → FitsContext self.old hold → FitsContext self.new hold }
+        ensures step { IsStep self.old self.new }
+    {
+        let Some(job) = self.job.take() else {
+            unreachable!()
+        };
+        let end = end_of(&outcome);
+        let Work {
+            source,
+            dest,
+            reference,
+            ..
+        } = work;
+        let Some(payload) = dest else { unreachable!() };
+        self.reference = reference;
+        begin_anew_where(end.fault, &mut self.reference);
+        let stamp = source.stamp;
+        let source = source_back(job.source, source);
+        self.pair.retire_out(source, end.source_flags);
+        let dest = dest_back(job.dest, payload);
+        let ended = self.pair.retire_cap(dest, end.used, end.dest_flags, stamp);
+        raise_end(ended, &mut self.events);
+    }
+}

@@ -1,0 +1,154 @@
+//! An encoder context: raw pictures are queued on OUTPUT, and the coded frames come out on CAPTURE.
+//!
+//! The rules follow the chapter "Memory-to-Memory Stateful Video Encoder Interface" of the Linux userspace
+//! API documentation, as far as docs/DEVICE.md does not say otherwise.
+#![tactic(auto)]
+
+ghost use Rattle.std.specs.Prelude.{◌≡◌, ℕ, false, IfOk, Some, [], is_some};
+ghost use Rattle.vc_base.specs.declared.Kind.TheVariants.{Enc};
+ghost use Rattle.vc_model.specs.Context.{fresh_context};
+ghost use Rattle.vc_model.specs.Answer.{context_answer};
+ghost use Rattle.vc_model.specs.Core.{unless_memory};
+ghost use Rattle.vc_context.specs.Contexts.{HasRoom, GivesWithMemory, IsKept, IsStep, TakesMemory, is_close};
+ghost use Rattle.vc_context.specs.Payloads.{FitsContext, Moves, handed_over};
+
+mod buffers;
+mod commands;
+mod formats;
+mod jobs;
+mod replies;
+mod settings;
+mod settling;
+mod streaming;
+
+use crate::replies::refused;
+use std::alloc::Global;
+use std::marker::Model;
+use vc_base::{Call, Errno, Kind, NoMemory, Reply};
+use vc_context::refusals::{create_refusal, reqbufs_refusal};
+use vc_context::replies::no_command;
+use vc_ctrl::Controls;
+use vc_event::Events;
+use vc_geom::{Formats, open_formats};
+use vc_pair::Pair;
+use vc_queue::hold::Hold;
+use vc_work::Reference;
+
+/// The buffers of the running job, by their indices.
+#[derive(Clone, Copy, Debug, PartialEq, Eq)]
+struct InJob {
+    source: u32,
+    dest: u32,
+}
+
+/// An encoder context: its queues, formats, controls and events, and what the codec keeps from frame to
+/// frame. That is here while OUTPUT has buffers and no job runs; without it the next frame is an I frame
+/// with the number 0.
+#[derive(Drop)]
+pub struct Encoder {
+    pair: Pair,
+    formats: Formats,
+    controls: Controls,
+    events: Events,
+    reference: Option<Reference>,
+    job: Option<InJob>,
+}
+
+impl Model for Encoder {
+    ghost use Rattle.vc_geom.specs.Pairs.{pair_of};
+    ghost use Rattle.vc_model.specs.Context.{Context};
+    ghost use Rattle.vc_enc.specs.Encoders.{encoder_state, IsEncoder};
+
+    ghost Value = { Context };
+
+    ghost view = { λ e. encoder_state (pair_of e.formats) e.controls e.pair e.events e.reference e.job };
+
+    ghost invariant = { λ e. IsEncoder (pair_of e.formats) e.pair e.reference e.job };
+}
+
+impl Encoder {
+    /// A context at Open: `YU12` pictures of 352 by 288, no buffers, and the usual controls.
+    ///
+    /// # Errors
+    /// `NoMemory` where no memory is found.
+    pub fn make(alloc: Global) -> Result<Encoder, NoMemory>
+        ensures { IfOk result (λ e. e ≡ fresh_context Enc) }
+    {
+        let events = Events::make(alloc)?;
+        Ok(Encoder {
+            pair: Pair::new(),
+            formats: open_formats(Kind::Enc),
+            controls: Controls::new(),
+            events,
+            reference: None,
+            job: None,
+        })
+    }
+
+    /// Answers a call other than Close. Open is refused, since the context is open.
+    pub fn answer(&mut self, alloc: Global, call: &Call, hold: &mut Hold) -> Reply
+        requires other { is_close call.now ≡ false }
+        requires kept { IsKept self.old }
+        requires fits { FitsContext self.old hold.old }
+        requires room { HasRoom self.old }
+        ensures answers { GivesWithMemory (context_answer self.old call.now (handed_over call.now hold.old)) result self.new }
+        ensures step { IsStep self.old self.new }
+        ensures moves { Moves (Some self.old) call.now result hold.old hold.new }
+        ensures fit { FitsContext self.new hold.new }
+    {
+        let _ = &self.pair;
+        match *call {
+            Call::EnumFmt { side, index } => self.enum_format(side, index),
+            Call::GetFmt { side } => self.format(side),
+            Call::TryFmt { side, want } => self.try_format(side, &want),
+            Call::SetFmt { side, want } => self.set_format(side, &want),
+            Call::ReqBufs { side, count } => self.reqbufs(alloc, side, count, hold),
+            Call::CreateBufs {
+                side,
+                count,
+                length,
+            } => self.create(alloc, side, count, length, hold),
+            Call::QueryBuf { side, index } => self.querybuf(side, index),
+            Call::QBuf {
+                side,
+                index,
+                used,
+                stamp,
+            } => self.qbuf(side, index, used, stamp, hold),
+            Call::DqBuf { side, block } => self.dqbuf(side, block, hold),
+            Call::StreamOn { side } => self.streamon(side),
+            Call::StreamOff { side } => self.streamoff(side, hold),
+            Call::Subscribe { event } => self.subscribe(event),
+            Call::Unsubscribe { event } => self.unsubscribe(event),
+            Call::DqEvent { block } => self.dqevent(block),
+            Call::DecCmd { .. } => no_command(),
+            Call::EncCmd { cmd } => self.command(cmd),
+            Call::GetCtrl { id } => self.control(id),
+            Call::SetCtrl { id, value } => self.set_control(id, value),
+            Call::Poll => self.poll(),
+            Call::Open { .. } => refused(Errno::Busy),
+            Call::Close => Reply::Blocked,
+        }
+    }
+
+    /// What a call that takes memory answers before memory is sought: a refusal, or none where all tests
+    /// pass.
+    pub fn refusal(&self, call: &Call) -> Option<Reply>
+        requires { TakesMemory call.now }
+        ensures { result ≡ unless_memory (context_answer self.now call.now [] false).reply }
+    {
+        let _ = &self.pair;
+        match *call {
+            Call::ReqBufs { side, .. } => reqbufs_refusal(self.pair.queue(side)),
+            Call::CreateBufs {
+                side,
+                count,
+                length,
+            } => create_refusal(self.pair.queue(side), count, length),
+            _ => Some(refused(Errno::Busy)),
+        }
+    }
+}
+
+#[cfg(test)]
+mod tests;

@@ -1,0 +1,75 @@
+//! Streaming: VIDIOC_STREAMON and VIDIOC_STREAMOFF.
+
+ghost use Rattle.std.specs.Prelude.{◌≡◌, Some};
+ghost use Rattle.vc_base.specs.declared.Call.TheVariants.{StreamOff};
+ghost use Rattle.vc_model.specs.Answer.{streamon_answer, streamoff_answer};
+ghost use Rattle.vc_context.specs.Contexts.{HasRoom, IsKept, IsStep, Gives};
+ghost use Rattle.vc_context.specs.Payloads.{FitsContext, Moves};
+ghost use Rattle.vc_enc.specs.Encoders.{ends_capture, anew_where};
+ghost use Rattle.vc_enc.specs.Serving.{Serves};
+
+use crate::Encoder;
+use crate::formats::format_of;
+use crate::settling::settle;
+use vc_base::{Reply, Side};
+use vc_context::replies::told;
+use vc_pair::Pair;
+use vc_queue::hold::Hold;
+use vc_work::Reference;
+
+/// Whether CAPTURE streams and is to stop.
+fn ends_capture(pair: &Pair, side: Side) -> bool
+    ensures { result ≡ ends_capture side pair.now }
+{
+    match side {
+        Side::Out => false,
+        Side::Cap => pair.queue(Side::Cap).is_streaming(),
+    }
+}
+
+/// Lets the codec begin anew, where it has to.
+pub(crate) fn begin_anew_where(due: bool, reference: &mut Option<Reference>)
+    ensures { reference.new ≡ anew_where due reference.old }
+{
+    if !due {
+        return;
+    }
+    if let Some(reference) = reference {
+        reference.reset();
+    }
+}
+
+impl Encoder {
+    /// Lets a queue stream.
+    pub(crate) fn streamon(&mut self, side: Side) -> Reply
+        requires kept { IsKept self.old }
+        requires room { HasRoom self.old }
+        ensures { Serves (streamon_answer self.old side) result self.old self.new }
+    {
+        let least = format_of(&self.formats, side).size;
+        let answer = self.pair.streamon(side, least);
+        settle(&mut self.pair, &mut self.events);
+        told(answer)
+    }
+
+    /// Ends streaming of a queue, unless a job runs: its ready and done buffers go back to the user. Where
+    /// CAPTURE streamed the codec begins anew.
+    pub(crate) fn streamoff(&mut self, side: Side, hold: &mut Hold) -> Reply
+        requires kept { IsKept self.old }
+        requires fits { FitsContext self.old hold.old }
+        requires room { HasRoom self.old }
+        ensures answers { Gives (streamoff_answer self.old side) result self.new }
+        ensures step { IsStep self.old self.new }
+        ensures moves { Moves (Some self.old) (StreamOff side) result hold.old hold.new }
+        ensures fit { FitsContext self.new hold.new }
+    {
+        if self.job.is_some() {
+            return Reply::Blocked;
+        }
+        let due = ends_capture(&self.pair, side);
+        self.pair.streamoff(side, hold);
+        begin_anew_where(due, &mut self.reference);
+        settle(&mut self.pair, &mut self.events);
+        Reply::Done
+    }
+}
