@@ -14,6 +14,7 @@ use Rattle.vc_defs.proofs.InnerMagic.{magic_there}
 use Rattle.vc_defs.proofs.Splitting.{Heads, first_at_front}
 use Rattle.vc_resync.specs.declared.feeding.Found.TheVariants.{More, Head as HeadFound}
 use Rattle.vc_resync.specs.Seeking.{Matches, Sought}
+use Rattle.vc_resync.specs.Assembling.{IsLegal}
 use Rattle.vc_resync.specs.Collecting.{put_at, IsBegun, IsOpen, Taken, Grows}
 use Rattle.vc_resync.proofs.Matching.{none_there, one_there, matched_few}
 use Rattle.vc_resync.proofs.Putting.{put_to_end, put_before}
@@ -124,7 +125,7 @@ heads_front limit head rest h long front is = (
 )
 
 -- a header that was read
-pub head_open : (limit : ℕ) (head body : List ℕ) (h : Header) (count now : ℕ) → length head ≡ 44 → take 8 head ≡ magic → header_from limit head ≡ Some h → is_legal limit h ≡ true → Sought 0 (drop 8 head) count now → IsOpen limit head body h 0 now
+pub head_open : (limit : ℕ) (head body : List ℕ) (h : Header) (count now : ℕ) → length head ≡ 44 → take 8 head ≡ magic → header_from limit head ≡ Some h → IsLegal limit h → Sought 0 (drop 8 head) count now → IsOpen limit head body h 0 now
 head_open limit head body h count now long front is legal s =
     let none : first_magic (drop 8 head) ≡ None =
     ap (λ t. first_magic (drop 8 t)) (sym (append-nil head)) ∙ header_alone limit (head ++ []) h (heads_front limit head [] h long front is) (ap length (append-nil head) ∙ long) in
@@ -132,8 +133,9 @@ head_open limit head body h count now long front is legal s =
     let all : take count (drop 8 head) ≡ drop 8 head = take_all count (drop 8 head) (omega (arith, s.all few)) in
     record {
       header = is;
+      legal = legal;
       front = front;
-      room = size_within limit h legal;
+      room = size_within limit h legal.0;
       part = omega arith;
       few = few;
       matches = subst (λ (t : List ℕ). Matches t now) (all ∙ ap (λ t. drop 8 t) (sym (append-nil head))) s.matches;

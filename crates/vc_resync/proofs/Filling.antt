@@ -102,6 +102,7 @@ pub more_open : (limit : ℕ) (head body bytes after : List ℕ) (h : Header) (f
     count ≡ length bytes → after ≡ put_at body filled bytes → IsOpen limit head after h (filled + count) now
 more_open limit head body bytes after h filled matched now count long room so_far s other few n put = record {
   header = so_far.header;
+  legal = so_far.legal;
   front = so_far.front;
   room = so_far.room;
   part = omega arith;

@@ -3,14 +3,14 @@ use Rattle.std.proofs.Common.{◌≡◌, ◌∙◌, sym, ap, refl, subst, ℕ, i
 use Rattle.std.specs.Prelude.{◌⊎◌, true, false, min, nat_le, cond}
 use Rattle.std.specs.declared.option.Option.{Option}
 use Rattle.std.specs.declared.option.Option.TheVariants.{Some, None}
-use Rattle.std.proofs.lemmas.List.{take_all, take-append-drop}
+use Rattle.std.proofs.lemmas.List.{take_all, take-append-drop, length-take-le}
 use Rattle.circular_buffer.specs.Buffer.{keep_last}
 use Rattle.vc_base.specs.declared.Stamp.{Stamp}
 use Rattle.vc_base.specs.Buffers.{zero_stamp}
 use Rattle.vc_defs.specs.Finds.{Find, Head, Ended, KeptBytes, nothing_kept, fed}
 use Rattle.vc_resync.specs.declared.feeding.Found.{Found}
-use Rattle.vc_resync.specs.declared.feeding.Found.TheVariants.{Whole as WholeFound, Cut as CutFound}
-use Rattle.vc_resync.specs.Assembling.{AssemblyState, ToldFrame, found_of, frame_of, is_told}
+use Rattle.vc_resync.specs.declared.feeding.Found.TheVariants.{More, Head as HeadFound, Whole as WholeFound, Cut as CutFound}
+use Rattle.vc_resync.specs.Assembling.{AssemblyState, ToldFrame, found_of, frame_of, is_told, IsToldBy}
 use Rattle.vc_resync.specs.Collecting.{Taken, Grows, frame_found}
 use Rattle.vc_resync.specs.Continuing.{IsKept, SameAnswer, IsAnswered}
 use Rattle.vc_resync.specs.Telling.{FoundFits}
@@ -94,3 +94,10 @@ answered assembly all stamp found body now told count k s n t (inr e) =
       told = r.told;
       leaves = ap (λ (x : KeptBytes). state_of assembly.limit x told) r.is ∙ ap (λ x. state_of assembly.limit (fed kept assembly.limit all stamp).kept x) (t ∙ r.frame);
     }
+
+-- What is remembered of an answer is what it tells.
+pub remembered : (found : Found) (body : List ℕ) (first : Stamp) → FoundFits found body → IsToldBy found (frame_found found body first)
+remembered More body first f = refl
+remembered (HeadFound h) body first f = refl
+remembered (WholeFound h) body first f = (refl, (refl, length-take-le h.size body f))
+remembered (CutFound h) body first f = refl

@@ -7,3 +7,4 @@ pub mod Composing
 pub mod Stamping
 pub mod Answering
 pub mod Keeping
+pub mod Decoding

@@ -1,9 +1,11 @@
 -- What an assembly is for its caller, and what a call tells.
 -- All of it is docs/FORMAT.md, "Frame places".
-use Rattle.std.specs.Prelude.{ℕ, List, Bool, true, false}
+use Rattle.std.specs.Prelude.{◌≡◌, ℕ, List, length, Bool, true, false, IsSome, IfSome}
 use Rattle.std.specs.declared.option.Option.{Option}
 use Rattle.std.specs.declared.option.Option.TheVariants.{Some, None}
 use Rattle.vc_base.specs.declared.Stamp.{Stamp}
+use Rattle.vc_defs.specs.declared.Header.{Header}
+use Rattle.vc_defs.specs.Headers.{most_bytes, is_legal}
 use Rattle.vc_defs.specs.Places.{Frame}
 use Rattle.vc_defs.specs.Finds.{Find, Head, Ended, KeptBytes, nothing_kept, FedStep}
 use Rattle.vc_resync.specs.declared.feeding.Found.{Found}
@@ -61,3 +63,25 @@ is_told More = false
 is_told (HeadFound h) = true
 is_told (Whole h) = true
 is_told (Cut h) = true
+
+-- what an answer says of a header
+abbrev pub IsLegal : ℕ → Header → Type 0
+IsLegal limit h = (is_legal limit h ≡ true) × (is_legal most_bytes h ≡ true)
+
+-- a header that is told is legal under the limit, and under the largest one
+abbrev pub IsLegalAnswer : ℕ → Found → Type 0
+IsLegalAnswer limit More = Unit {0}
+IsLegalAnswer limit (HeadFound h) = IsLegal limit h
+IsLegalAnswer limit (Whole h) = IsLegal limit h
+IsLegalAnswer limit (Cut h) = IsLegal limit h
+
+-- a whole frame's body is there, and has the size that its header says
+abbrev pub IsBodyOf : Header → Option ToldFrame → Type 0
+IsBodyOf h told = IsSome (told_body told) × IfSome (told_body told) (λ body. length body ≡ h.size)
+
+-- what is told of a frame's end is there behind its answer, and only then
+abbrev pub IsToldBy : Found → Option ToldFrame → Type 0
+IsToldBy More told = told ≡ None
+IsToldBy (HeadFound h) told = told ≡ None
+IsToldBy (Whole h) told = IsSome told × IsBodyOf h told
+IsToldBy (Cut h) told = IsSome told

@@ -13,7 +13,7 @@ use Rattle.vc_resync.specs.declared.collected.Collected.{Collected}
 use Rattle.vc_resync.specs.declared.collected.Stage.{Stage}
 use Rattle.vc_resync.specs.declared.collected.Stage.TheVariants.{Seeking, Begun, Open}
 use Rattle.vc_resync.specs.Seeking.{Matches}
-use Rattle.vc_resync.specs.Assembling.{found_of, ToldFrame}
+use Rattle.vc_resync.specs.Assembling.{found_of, ToldFrame, IsLegal}
 
 -- bytes in the place of those that stand from a place on
 abbrev pub put_at : List ℕ → ℕ → List ℕ → List ℕ
@@ -34,6 +34,7 @@ pub record IsBegun (head : List ℕ) (length : ℕ) : Type 0 where
 -- a legal header stands in front, and nothing of its frame's end
 pub record IsOpen (limit : ℕ) (head body : List ℕ) (h : Header) (filled matched : ℕ) : Type 0 where
   pub header : header_from limit head ≡ Some h
+  pub legal : IsLegal limit h
   pub front : take 8 head ≡ magic
   pub room : h.size ≤ limit
   pub part : filled ≤ h.size

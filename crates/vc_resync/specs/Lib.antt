@@ -5,3 +5,4 @@ pub mod Continuing
 pub mod Stamping
 pub mod Telling
 pub mod Keeping
+pub mod Decoding

@@ -2,7 +2,7 @@
 
 ghost use Rattle.std.specs.Prelude.{◌≡◌, ◌≤◌, ◌<◌, ◌⊎◌, length, take, drop, false, true, IfOk, Some, IsSome, option_map};
 ghost use Rattle.vc_defs.specs.Finds.{fed};
-ghost use Rattle.vc_resync.specs.Assembling.{fresh_assembly, found_of, assembly_after, told_body, told_stamp, is_told};
+ghost use Rattle.vc_resync.specs.Assembling.{fresh_assembly, found_of, assembly_after, told_body, told_stamp, is_told, IsToldBy, IsLegalAnswer};
 ghost use Rattle.vc_resync.specs.Continuing.{SameAnswer, IsAnswered};
 
 use crate::collected::Collected;
@@ -60,7 +60,7 @@ impl Assembly {
         self.told = Told::Nothing;
     }
 
-    /// The body of the whole frame that the last feed told.
+    /// The body of the whole frame that the last feed told. It has as many bytes as the frame's header says.
     pub fn body(&self) -> &[u8]
         requires { IsSome (told_body self.now.told) }
         ensures { told_body self.now.told ≡ Some result.now }
@@ -87,6 +87,8 @@ impl Assembly {
     pub(crate) fn advance(&mut self, bytes: &[u8], stamp: Stamp) -> (usize, Found)
         ensures limit { self.new.limit ≡ self.old.limit }
         ensures inside { result.0 ≤ length bytes.now }
+        ensures legal { IsLegalAnswer self.old.limit result.1 }
+        ensures told { IsToldBy result.1 self.new.told }
         ensures moves { is_told result.1 ≡ false → 0 < length bytes.now → 0 < result.0 }
         ensures goes_on { is_told result.1 ≡ false → SameAnswer result.0 (fed self.old.kept self.old.limit bytes.now stamp) (fed self.new.kept self.old.limit (drop result.0 bytes.now) stamp) }
         ensures answered { (is_told result.1 ≡ true) ⊎ (result.0 ≡ length bytes.now) → IsAnswered (fed self.old.kept self.old.limit bytes.now stamp) result.0 result.1 self.old self.new }

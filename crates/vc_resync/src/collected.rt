@@ -4,6 +4,7 @@ ghost use Rattle.std.specs.Prelude.{◌≡◌, ◌<◌, ◌≤◌, ◌+◌, ℕ,
 ghost use Rattle.vc_defs.specs.Headers.{magic};
 ghost use Rattle.vc_defs.specs.Places.{start_of_magic};
 ghost use Rattle.vc_resync.specs.Seeking.{Sought};
+ghost use Rattle.vc_resync.specs.Assembling.{IsLegalAnswer};
 ghost use Rattle.vc_resync.specs.declared.feeding.Found.TheVariants.{More};
 ghost use Rattle.vc_resync.specs.Collecting.{put_at, kept_in, HasRoom, IsSound, IsBegun, IsOpen, Taken, Grows};
 
@@ -106,6 +107,7 @@ impl Collected {
         ensures inside { result.0 ≤ length bytes.now }
         ensures grows { Grows (length (kept_in self.old)) result.0 (length (kept_in self.new)) }
         ensures taken { Taken self.old.limit (kept_in self.old) (take result.0 bytes.now) result.1 self.new.body.items (kept_in self.new) }
+        ensures legal { IsLegalAnswer self.old.limit result.1 }
         ensures moves { result.1 ≡ More → 0 < length bytes.now → 0 < result.0 }
     {
         match self.stage {
@@ -128,6 +130,7 @@ impl Collected {
         ensures inside { result.0 ≤ length bytes.now }
         ensures grows { Grows (length (take matched magic)) result.0 (length (kept_in self.new)) }
         ensures taken { Taken self.old.limit (take matched magic) (take result.0 bytes.now) result.1 self.new.body.items (kept_in self.new) }
+        ensures legal { IsLegalAnswer self.old.limit result.1 }
         ensures moves { 0 < length bytes.now → 0 < result.0 }
     {
         let (count, matched) = seek(matched, bytes);
@@ -149,6 +152,7 @@ impl Collected {
         ensures inside { result.0 ≤ length bytes.now }
         ensures grows { Grows (length (take there self.old.head)) result.0 (length (kept_in self.new)) }
         ensures taken { Taken self.old.limit (take there self.old.head) (take result.0 bytes.now) result.1 self.new.body.items (kept_in self.new) }
+        ensures legal { IsLegalAnswer self.old.limit result.1 }
         ensures moves { 0 < length bytes.now → 0 < result.0 }
     {
         let count = bytes.len().min(44 - there);
@@ -168,6 +172,7 @@ impl Collected {
         requires front { take 8 self.old.head ≡ magic }
         ensures limit { self.new.limit ≡ self.old.limit }
         ensures sound { IsSound self.new }
+        ensures legal { IsLegalAnswer self.old.limit result }
         ensures few { length (kept_in self.new) ≤ 44 }
         ensures taken { (tail bytes : List ℕ) → tail ++ bytes ≡ self.old.head → 0 < length tail → length tail < 44 → Taken self.old.limit tail bytes result self.new.body.items (kept_in self.new) }
     {
@@ -222,6 +227,7 @@ impl Collected {
         ensures inside { result.0 ≤ length bytes.now }
         ensures grows { Grows (length (self.old.head ++ take filled self.old.body.items)) result.0 (length (kept_in self.new)) }
         ensures taken { Taken self.old.limit (self.old.head ++ take filled self.old.body.items) (take result.0 bytes.now) result.1 self.new.body.items (kept_in self.new) }
+        ensures legal { IsLegalAnswer self.old.limit result.1 }
         ensures moves { result.1 ≡ More → 0 < length bytes.now → 0 < result.0 }
     {
         let room = bytes.len().min(header.size as usize - filled);

@@ -2,7 +2,7 @@
 
 ghost use Rattle.std.specs.Prelude.{◌≡◌, ◌≤◌, false, length};
 ghost use Rattle.vc_defs.specs.Finds.{fed};
-ghost use Rattle.vc_resync.specs.Assembling.{is_told, found_of, assembly_after};
+ghost use Rattle.vc_resync.specs.Assembling.{is_told, found_of, assembly_after, IsToldBy, IsLegalAnswer};
 
 use crate::assembly::Assembly;
 use vc_base::Stamp;
@@ -34,14 +34,19 @@ fn is_told(found: &Found) -> bool
 /// Takes the bytes of a piece up to where something is told, and gives how many it took. All bytes of the piece have
 /// one stamp.
 ///
-/// Each legal header and each frame is told once, in order, at the first byte after which it is known. The answer is
-/// [`Found::More`] exactly where all that is known once the whole piece is there was told before; then the whole piece
-/// is taken. A header and its frame can be known at the same byte; then the next call tells the frame, also over an
-/// empty piece.
+/// What is told is the next legal header or frame, at the first byte after which it is known; over any cutting each is
+/// told once, in order, as `vc_defs::laws::feeding` says. The answer is [`Found::More`] exactly where all that is known
+/// once the whole piece is there was told before; then the whole piece is taken. A header and its frame can be known at
+/// the same byte; then the next call tells the frame, also over an empty piece.
+///
+/// A header that is told is legal under the assembly's limit. Behind [`Found::Whole`] the assembly has the frame's body,
+/// behind that and [`Found::Cut`] the stamp of the frame's first byte, until the next call. No call takes memory.
 pub fn feed(assembly: &mut Assembly, piece: &[u8], stamp: Stamp) -> (usize, Found)
     ensures taken { result.0 ≡ (fed assembly.old.kept assembly.old.limit piece.now stamp).moved }
     ensures found { result.1 ≡ found_of (fed assembly.old.kept assembly.old.limit piece.now stamp).told }
     ensures after { assembly.new ≡ assembly_after assembly.old (fed assembly.old.kept assembly.old.limit piece.now stamp) }
+    ensures legal { IsLegalAnswer assembly.old.limit result.1 }
+    ensures told { IsToldBy result.1 assembly.new.told }
     ensures inside { result.0 ≤ length piece.now }
     ensures all { is_told result.1 ≡ false → result.0 ≡ length piece.now }
 {

@@ -7,6 +7,7 @@
 mod assembly;
 mod collected;
 mod feeding;
+pub mod laws;
 mod seeking;
 mod stamps;
 mod told;

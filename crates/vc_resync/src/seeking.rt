@@ -39,7 +39,7 @@ pub(crate) fn seek(matched: usize, bytes: &[u8]) -> (usize, usize)
     let mut now = matched;
     while at < bytes.len() && now < 8 {
         if now == 0 {
-            match memchr(0x4f, &bytes[at..]) {
+            match memchr(MAGIC[0], &bytes[at..]) {
                 None => return (bytes.len(), 0),
                 Some(n) => at += n,
             }

@@ -10,8 +10,11 @@ use vc_base::Stamp;
 /// What the last feed told, of what its caller may ask.
 #[derive(Clone, Copy)]
 pub(crate) enum Told {
+    /// No frame's end.
     Nothing,
+    /// A cut frame, with its stamp.
     Cut { stamp: Stamp },
+    /// A whole frame, with its stamp and how many bytes its body has.
     Whole { stamp: Stamp, size: usize },
 }
 

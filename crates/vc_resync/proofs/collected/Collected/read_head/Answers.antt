@@ -16,7 +16,7 @@ returns-in-Ok-clause-sound c =
     let sought = subst (λ (t : List ℕ). Sought 0 t c.seek-count.result.0 c.seek-count.result.1) (take_all 36 (drop 8 head) (omega (arith, c.requires.room.head, length-drop 8 head))) c.seek-count.ensures in
     record {
       room = record { head = c.requires.room.head; body = c.requires.room.body };
-      stands = head_open c.args.self.now.limit head c.args.self.now.body.items c.in-Ok.header c.seek-count.result.0 c.seek-count.result.1 c.requires.room.head c.requires.front c.in-Ok.ensures.header c.in-Ok.ensures.legal sought;
+      stands = head_open c.args.self.now.limit head c.args.self.now.body.items c.in-Ok.header c.seek-count.result.0 c.seek-count.result.1 c.requires.room.head c.requires.front c.in-Ok.ensures.header (c.in-Ok.ensures.legal, c.in-Ok.ensures.writable) sought;
     }
 
 pub returns-in-Ok-clause-taken : goal.returns-in-Ok-clause-taken
