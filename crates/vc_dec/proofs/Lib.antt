@@ -1,0 +1,15 @@
+pub mod Answered
+pub mod Calling
+pub mod Creating
+pub mod Layouts
+pub mod Made
+pub mod Noting
+pub mod Opening
+pub mod Placing
+pub mod Queueing
+pub mod Requesting
+pub mod Rows
+pub mod Seeking
+pub mod Serves
+pub mod Serving
+pub mod Settled

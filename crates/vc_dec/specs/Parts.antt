@@ -1,0 +1,76 @@
+-- What the codec keeps, by its parts: an assembly for the bytes of frames, and references for the lengths of CAPTURE's
+-- buffers.
+use Rattle.std.specs.Prelude.{ℕ, ◌≡◌, Bool, true, false, map, Option, Some, None, List, [], ◌∷◌, ◌++◌}
+use Rattle.std.specs.Option.{option_map}
+use Rattle.vc_defs.specs.Decoder.{ReferenceState, DecoderState, fresh_decoder}
+use Rattle.vc_defs.specs.Encoder.{fresh_encoder}
+use Rattle.vc_defs.specs.Finds.{KeptBytes, nothing_kept}
+use Rattle.vc_resync.specs.Assembling.{AssemblyState, fresh_assembly}
+use Rattle.vc_work.specs.References.{CodecReference, HasRoomFor}
+use Rattle.vc_dec.specs.Decoders.{CodecParts}
+
+-- the picture of a reference, where it has one
+abbrev pub picture_of : Option CodecReference → Option ReferenceState
+picture_of None = None
+picture_of (Some r) = r.state.reference
+
+-- the bytes that an assembly keeps
+abbrev pub kept_of : Option AssemblyState → KeptBytes
+kept_of None = nothing_kept
+kept_of (Some a) = a.kept
+
+abbrev pub limit_of : Option AssemblyState → Option ℕ
+limit_of assembly = option_map (λ (a : AssemblyState). a.limit) assembly
+
+-- for how long buffers a reference is
+abbrev pub room_of : Option CodecReference → List ℕ
+room_of None = []
+room_of (Some r) = r.size ∷ []
+
+-- the state of a decoder with this picture and these bytes
+abbrev pub state_of : Option ReferenceState → KeptBytes → DecoderState
+state_of picture kept =
+    record { reference = picture; tail = kept.tail; first_stamp = kept.first_stamp; last_stamps = kept.last_stamps }
+
+-- The picture is in the present reference. The other ones serve buffers of other lengths.
+abbrev pub parts_of : Option AssemblyState → Option CodecReference → List CodecReference → CodecParts
+parts_of assembly present others =
+    record {
+      state = state_of (picture_of present) (kept_of assembly);
+      limit = limit_of assembly;
+      rooms = room_of present ++ map (λ (r : CodecReference). r.size) others;
+    }
+
+-- an assembly that was made, where it was needed
+abbrev pub new_assembly : Bool → ℕ → Option AssemblyState
+new_assembly true limit = Some (fresh_assembly limit)
+new_assembly false limit = None
+
+-- a reference that was made, where it was needed
+abbrev pub new_reference : Bool → ℕ → Option CodecReference
+new_reference true size = Some (record { size = size; state = fresh_encoder })
+new_reference false size = None
+
+-- nothing of a codec that begins anew is kept
+abbrev pub begun : Option ℕ → List ℕ → CodecParts
+begun limit rooms = record { state = fresh_decoder; limit = limit; rooms = rooms }
+
+-- a codec that begins anew with an assembly, where there is one
+abbrev pub supplied_with : Option AssemblyState → CodecParts → CodecParts
+supplied_with None parts = parts
+supplied_with (Some a) parts = begun (Some a.limit) parts.rooms
+
+-- the references after one, where there is one, took the picture over
+abbrev pub rooms_after : Option CodecReference → List ℕ → List ℕ
+rooms_after None rooms = rooms
+rooms_after (Some r) rooms = r.size ∷ []
+
+-- a reference without a picture, where there is one, has room for this picture
+abbrev pub CanTakeOver : Option ReferenceState → Option CodecReference → Type 0
+CanTakeOver picture None = Unit {0}
+CanTakeOver picture (Some r) = (r.state ≡ fresh_encoder) × HasRoomFor picture r.size
+
+-- the references with one more, where there is one
+abbrev pub rooms_with : Option CodecReference → List ℕ → List ℕ
+rooms_with None rooms = rooms
+rooms_with (Some r) rooms = rooms ++ r.size ∷ []

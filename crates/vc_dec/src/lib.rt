@@ -1,0 +1,156 @@
+//! A decoder context: pieces of a coded stream are queued on OUTPUT, and the pictures come out on CAPTURE.
+//!
+//! The rules follow the chapter "Memory-to-Memory Stateful Video Decoder Interface" of the Linux userspace
+//! API documentation, as far as docs/DEVICE.md does not say otherwise.
+#![tactic(auto)]
+
+ghost use Rattle.std.specs.Prelude.{◌≡◌, IfOk, Some, [], false};
+ghost use Rattle.vc_base.specs.declared.Kind.TheVariants.{Dec};
+ghost use Rattle.vc_model.specs.Context.{fresh_context};
+ghost use Rattle.vc_model.specs.Answer.{context_answer};
+ghost use Rattle.vc_model.specs.Core.{unless_memory};
+ghost use Rattle.vc_context.specs.Contexts.{HasRoom, GivesWithMemory, IsKept, IsStep, TakesMemory, is_close};
+ghost use Rattle.vc_context.specs.Payloads.{FitsContext, Moves, handed_over};
+
+mod buffers;
+mod codec;
+mod commands;
+mod formats;
+mod jobs;
+mod making;
+mod settings;
+mod settling;
+mod streaming;
+
+use crate::codec::Codec;
+use std::alloc::Global;
+use std::marker::Model;
+use vc_base::{Call, Errno, Kind, NoMemory, Reply};
+use vc_context::refusals::{create_refusal, reqbufs_refusal};
+use vc_context::replies::{no_command, nothing_such};
+use vc_defs::Geometry;
+use vc_event::Events;
+use vc_geom::{Formats, open_formats};
+use vc_pair::Pair;
+use vc_queue::hold::Hold;
+
+/// The CAPTURE buffer of the running job: its index, and its length in bytes.
+#[derive(Clone, Copy, Debug, PartialEq, Eq)]
+struct Dest {
+    index: u32,
+    length: u32,
+}
+
+/// The buffers of the running job: the index of the OUTPUT buffer and, but in a probe, the CAPTURE buffer.
+#[derive(Clone, Copy, Debug, PartialEq, Eq)]
+struct InJob {
+    source: u32,
+    dest: Option<Dest>,
+}
+
+/// A decoder context: its queues, formats and events, the geometry of its stream once that was found, and
+/// what the codec keeps from run to run. That is with the job while one runs.
+#[derive(Drop)]
+pub struct Decoder {
+    pair: Pair,
+    formats: Formats,
+    geometry: Option<Geometry>,
+    events: Events,
+    codec: Codec,
+    job: Option<InJob>,
+}
+
+impl Model for Decoder {
+    ghost use Rattle.vc_geom.specs.Pairs.{pair_of};
+    ghost use Rattle.vc_model.specs.Context.{Context};
+    ghost use Rattle.vc_dec.specs.Decoders.{decoder_state, IsDecoder};
+
+    ghost Value = { Context };
+
+    ghost view = { λ d. decoder_state (pair_of d.formats) d.geometry d.pair d.events d.codec.state d.job };
+
+    ghost invariant = { λ d. IsDecoder (pair_of d.formats) d.geometry d.pair d.events d.codec d.job };
+}
+
+impl Decoder {
+    /// A context at Open: pictures of 352 by 288 until the stream says otherwise, and no buffers.
+    ///
+    /// # Errors
+    /// `NoMemory` where no memory is found.
+    pub fn make(alloc: Global) -> Result<Decoder, NoMemory>
+        ensures { IfOk result (λ d. d ≡ fresh_context Dec) }
+    {
+        let events = Events::make(alloc)?;
+        Ok(Decoder {
+            pair: Pair::new(),
+            formats: open_formats(Kind::Dec),
+            geometry: None,
+            events,
+            codec: Codec::new(alloc),
+            job: None,
+        })
+    }
+
+    /// Answers a call other than Close. Open is refused, since the context is open.
+    pub fn answer(&mut self, alloc: Global, call: &Call, hold: &mut Hold) -> Reply
+        requires other { is_close call.now ≡ false }
+        requires kept { IsKept self.old }
+        requires fits { FitsContext self.old hold.old }
+        requires room { HasRoom self.old }
+        ensures answers { GivesWithMemory (context_answer self.old call.now (handed_over call.now hold.old)) result self.new }
+        ensures step { IsStep self.old self.new }
+        ensures moves { Moves (Some self.old) call.now result hold.old hold.new }
+        ensures fit { FitsContext self.new hold.new }
+    {
+        let _ = &self.pair;
+        match *call {
+            Call::EnumFmt { side, index } => self.enum_format(side, index),
+            Call::GetFmt { side } => self.format(side),
+            Call::TryFmt { side, want } => self.try_format(side, &want),
+            Call::SetFmt { side, want } => self.set_format(side, &want),
+            Call::ReqBufs { side, count } => self.reqbufs(alloc, side, count, hold),
+            Call::CreateBufs {
+                side,
+                count,
+                length,
+            } => self.create(alloc, side, count, length, hold),
+            Call::QueryBuf { side, index } => self.querybuf(side, index),
+            Call::QBuf {
+                side,
+                index,
+                used,
+                stamp,
+            } => self.qbuf(side, index, used, stamp, hold),
+            Call::DqBuf { side, block } => self.dqbuf(side, block, hold),
+            Call::StreamOn { side } => self.streamon(side),
+            Call::StreamOff { side } => self.streamoff(side, hold),
+            Call::Subscribe { event } => self.subscribe(event),
+            Call::Unsubscribe { event } => self.unsubscribe(event),
+            Call::DqEvent { block } => self.dqevent(block),
+            Call::DecCmd { cmd } => self.command(cmd),
+            Call::EncCmd { .. } => no_command(),
+            Call::GetCtrl { id } => self.control(id),
+            Call::SetCtrl { .. } => nothing_such(),
+            Call::Poll => self.poll(),
+            Call::Open { .. } => Reply::Refused { errno: Errno::Busy },
+            Call::Close => Reply::Blocked,
+        }
+    }
+
+    /// What ReqBufs and CreateBufs answer before memory is sought.
+    pub fn refusal(&self, call: &Call) -> Option<Reply>
+        requires { TakesMemory call.now }
+        ensures { result ≡ unless_memory (context_answer self.now call.now [] false).reply }
+    {
+        let _ = &self.pair;
+        match *call {
+            Call::ReqBufs { side, .. } => reqbufs_refusal(self.pair.queue(side)),
+            Call::CreateBufs {
+                side,
+                count,
+                length,
+            } => create_refusal(self.pair.queue(side), count, length),
+            _ => Some(Reply::Refused { errno: Errno::Busy }),
+        }
+    }
+}
