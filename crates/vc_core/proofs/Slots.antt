@@ -14,11 +14,12 @@ use Rattle.vc_model.specs.Answer.{Answer, answer, closed_answer, context_answer,
 use Rattle.vc_model.specs.Runs.{is_claimable}
 use Rattle.vc_queue.specs.Holds.{HoldState}
 use Rattle.vc_core.specs.declared.slot.Content.{Content}
-use Rattle.vc_core.specs.declared.slot.Content.TheVariants.{Closed, Copying}
+use Rattle.vc_core.specs.declared.slot.Content.TheVariants.{Closed, Copying, Encoding}
 use Rattle.vc_core.specs.declared.copier.Copier.{Copier}
+use Rattle.vc_enc.specs.declared.Encoder.{Encoder}
 use Rattle.vc_core.specs.Contents.{slot_state}
-use Rattle.vc_context.specs.Contexts.{GivesWithMemory}
-use Rattle.vc_core.specs.Slots.{IsAnswer, opened_kind}
+use Rattle.vc_context.specs.Contexts.{GivesWithMemory, IsStep}
+use Rattle.vc_core.specs.Slots.{IsAnswer, IsStepOfSlot, opened_kind}
 use Rattle.vc_context.specs.Payloads.{HoldsNothing, FitsContext, FitsSlot, empty_hold}
 
 pub closed_view : (content : Content) (s : Slot) → slot_state content ≡ s → content ≡ Closed → s ≡ None
@@ -125,6 +126,13 @@ opened_fits s new kind told hold e a f =
 pub copying_view : (content : Content) (s : Slot) (copier : Box Copier Global) → slot_state content ≡ s → content ≡ Copying copier → Some copier.value ≡ s
 copying_view content s copier view e = sym (ap slot_state e) ∙ view
 
+pub encoding_view : (content : Content) (s : Slot) (encoder : Box Encoder Global) → slot_state content ≡ s → content ≡ Encoding encoder → Some encoder.value ≡ s
+encoding_view content s encoder view e = sym (ap slot_state e) ∙ view
+
 pub fits_inside : (s : Slot) (c d : Context) (hold : HoldState) → Some c ≡ s → d ≡ c → FitsSlot s hold → FitsContext d hold
 fits_inside s c d hold view e f =
     subst (λ (x : Context). FitsContext x hold) (sym e) (subst (λ (x : Slot). FitsSlot x hold) (sym view) f)
+
+pub step_inside : (s : Slot) (c d new : Context) → Some c ≡ s → d ≡ c → IsStep d new → IsStepOfSlot s (Some new)
+step_inside s c d new view e step =
+    rw (← view, ← e) (record { kept = step.kept; counted = step.counted })

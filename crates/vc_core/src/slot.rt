@@ -2,7 +2,7 @@
 
 ghost use Rattle.std.specs.Prelude.{◌≡◌, ℕ, true, false, is_some, Some, None, List, [], IfSome};
 ghost use Rattle.std.specs.Option.{option_map};
-ghost use Rattle.vc_base.specs.declared.Kind.TheVariants.{Copy};
+ghost use Rattle.vc_base.specs.declared.Kind.TheVariants.{Copy, Enc};
 ghost use Rattle.vc_base.specs.declared.Call.TheVariants.{Open, Close};
 ghost use Rattle.vc_model.specs.Core.{BroughtBack, claimed_in, before_memory, unless_memory};
 ghost use Rattle.vc_model.specs.Answer.{closed_answer};
@@ -20,13 +20,15 @@ use std::alloc::Global;
 use std::marker::Model;
 use vc_base::{Call, Errno, Kind, Reply};
 use vc_context::replies::no_memory;
+use vc_enc::Encoder;
 use vc_queue::hold::Hold;
 
-/// What a slot has. Contexts that encode and decode become further variants.
+/// What a slot has. Contexts that decode become a further variant.
 #[derive(Drop)]
 enum Content {
     Closed,
     Copying(Box<Copier>),
+    Encoding(Box<Encoder>),
 }
 
 /// A slot of the device.
@@ -99,6 +101,7 @@ impl Slot {
         match &mut self.content {
             Content::Closed => {}
             Content::Copying(copier) => return copier.answer(alloc, call, hold),
+            Content::Encoding(encoder) => return encoder.answer(alloc, call, hold),
         }
         match opened_kind(call) {
             Some(kind) => self.open(alloc, kind),
@@ -120,14 +123,29 @@ impl Slot {
         })
     }
 
-    /// A slot with a fresh context, where memory for it is found. There are no contexts yet that encode or
-    /// decode: these find none.
+    /// A slot with a fresh encoder context, where memory for it is found.
+    fn encoding(alloc: Global) -> Option<Slot>
+        ensures { IfSome result (λ slot. slot ≡ Some (fresh_context Enc)) }
+    {
+        let Ok(encoder) = Encoder::make(alloc) else {
+            return None;
+        };
+        let Ok(encoder) = Box::new(alloc, encoder) else {
+            return None;
+        };
+        Some(Slot {
+            content: Content::Encoding(encoder),
+        })
+    }
+
+    /// A slot with a fresh context, where memory for it is found. There are no contexts yet that decode:
+    /// these find none.
     fn opened(alloc: Global, kind: Kind) -> Option<Slot>
         ensures { IfSome result (λ slot. slot ≡ Some (fresh_context kind)) }
     {
         match kind {
             Kind::Copy => Slot::copying(alloc),
-            Kind::Enc => None,
+            Kind::Enc => Slot::encoding(alloc),
             Kind::Dec => None,
         }
     }
@@ -174,6 +192,7 @@ impl Slot {
         match &self.content {
             Content::Closed => None,
             Content::Copying(copier) => Some(copier.is_running()),
+            Content::Encoding(encoder) => Some(encoder.is_running()),
         }
     }
 
@@ -185,6 +204,7 @@ impl Slot {
         match &self.content {
             Content::Closed => closed_refusal(call),
             Content::Copying(copier) => copier.refusal(call),
+            Content::Encoding(encoder) => encoder.refusal(call),
         }
     }
 
@@ -195,6 +215,7 @@ impl Slot {
         match &self.content {
             Content::Closed => false,
             Content::Copying(copier) => copier.ready(),
+            Content::Encoding(encoder) => encoder.ready(),
         }
     }
 
@@ -212,6 +233,7 @@ impl Slot {
         match &mut self.content {
             Content::Closed => unreachable!(),
             Content::Copying(copier) => Job::new(slot, copier.claim()),
+            Content::Encoding(encoder) => Job::new(slot, encoder.claim()),
         }
     }
 
@@ -232,6 +254,7 @@ impl Slot {
         match &mut self.content {
             Content::Closed => unreachable!(),
             Content::Copying(copier) => copier.finish(work, outcome),
+            Content::Encoding(encoder) => encoder.finish(work, outcome),
         }
     }
 }
