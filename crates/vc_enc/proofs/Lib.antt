@@ -10,3 +10,4 @@ pub mod Requesting
 pub mod Serving
 pub mod Settled
 pub mod Stopping
+pub mod Trying

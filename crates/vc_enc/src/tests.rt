@@ -1,11 +1,392 @@
-//! Calls on one context, by rows.
+//! Calls and runs of one context, by rows. The runs are made by hand: what stands in the destination is
+//! taken for a frame of eight bytes.
+
+ghost use Rattle.std.specs.Prelude.{◌≡◌, ◌<◌, ◌≤◌, ◌+◌, ◌*◌, length};
+ghost use Rattle.vc_context.specs.Contexts.{IsKept, IsCounted, is_close};
+ghost use Rattle.vc_context.specs.Payloads.{FitsContext};
 
 use super::*;
+use std::process::Abort;
 use std::test::Fail;
+use vc_base::{Format, Fourcc, Side, Stamp};
+use vc_work::{EngineFault, Outcome};
+
+/// A step of a context: a call with its reply, a run that gives a frame, or one that the engine gives up.
+#[derive(Clone, Copy, Debug)]
+enum Step {
+    Call(Call, Reply),
+    Frame { key: bool },
+    Fault,
+}
+
+fn is_close(call: &Call) -> bool
+    ensures { result ≡ is_close call.now }
+{
+    match *call {
+        Call::Close => true,
+        _ => false,
+    }
+}
+
+/// Makes a call, and compares the reply.
+fn answer(
+    rt: &impl Abort,
+    alloc: Global,
+    encoder: &mut Encoder,
+    hold: &mut Hold,
+    step: (Call, Reply),
+    count: u64,
+)
+    requires few { count < 1000 }
+    requires kept { IsKept encoder.old }
+    requires fits { FitsContext encoder.old hold.old }
+    requires counted { IsCounted count encoder.old }
+    ensures kept { IsKept encoder.new }
+    ensures fits { FitsContext encoder.new hold.new }
+    ensures counted { IsCounted (count + 1) encoder.new }
+{
+    let (call, reply) = step;
+    let closes = is_close(&call);
+    assert!(rt; !closes);
+    let told = encoder.answer(alloc, &call, hold);
+    assert_eq!(rt; told, reply, "step {count}");
+}
+
+/// Runs a job to its end.
+fn frame(rt: &impl Abort, encoder: &mut Encoder, hold: &Hold, key: bool, count: u64)
+    requires few { count < 1000 }
+    requires kept { IsKept encoder.old }
+    requires fits { FitsContext encoder.old hold.now }
+    requires counted { IsCounted count encoder.old }
+    ensures kept { IsKept encoder.new }
+    ensures fits { FitsContext encoder.new hold.now }
+    ensures counted { IsCounted (count + 2) encoder.new }
+{
+    let ready = encoder.ready();
+    assert!(rt; ready);
+    let work = encoder.claim();
+    let _ = &encoder.pair;
+    encoder.finish(work, Ok(Outcome::Encoded { used: 8, key }));
+}
+
+/// Gives a job up.
+fn fault(rt: &impl Abort, encoder: &mut Encoder, hold: &Hold, count: u64)
+    requires few { count < 1000 }
+    requires kept { IsKept encoder.old }
+    requires fits { FitsContext encoder.old hold.now }
+    requires counted { IsCounted count encoder.old }
+    ensures kept { IsKept encoder.new }
+    ensures fits { FitsContext encoder.new hold.now }
+    ensures counted { IsCounted (count + 2) encoder.new }
+{
+    let ready = encoder.ready();
+    assert!(rt; ready);
+    let work = encoder.claim();
+    encoder.finish(work, Err(EngineFault));
+}
+
+/// Goes through steps with a new context.
+fn play(rt: &impl Abort, alloc: Global, steps: &[Step]) -> Result<(), NoMemory>
+    requires { length steps.now ≤ 100 }
+{
+    let mut encoder = Encoder::make(alloc)?;
+    let mut hold = Hold::new();
+    let mut count = 0;
+    for step in steps {
+        match *step {
+            Step::Call(call, reply) => {
+                answer(rt, alloc, &mut encoder, &mut hold, (call, reply), count);
+            }
+            Step::Frame { key } => frame(rt, &mut encoder, &hold, key, count),
+            Step::Fault => fault(rt, &mut encoder, &hold, count),
+        }
+        count += 2;
+    }
+    Ok(())
+}
+
+/// A format, asked for or told.
+fn format(fourcc: &[u8; 4], width: u32, height: u32, size: u32) -> Format {
+    Format {
+        fourcc: Fourcc(*fourcc),
+        width,
+        height,
+        size,
+    }
+}
+
+/// A call on a side, that is done.
+fn done(call: Call) -> Step {
+    Step::Call(call, Reply::Done)
+}
+
+fn refuses(call: Call, errno: Errno) -> Step {
+    Step::Call(call, Reply::Refused { errno })
+}
 
 #[test]
-fn a_context_can_be_made(rt: HostRuntime) -> Result<(), Fail> {
-    let encoder = Encoder::make(rt.alloc())?;
-    assert!(rt; !encoder.ready());
+fn formats_follow_output(rt: HostRuntime) -> Result<(), Fail> {
+    let out = Side::Out;
+    let cap = Side::Cap;
+    let rows = [
+        Step::Call(
+            Call::GetFmt { side: out },
+            Reply::Fmt {
+                format: format(b"YU12", 352, 288, 152_064),
+            },
+        ),
+        Step::Call(
+            Call::GetFmt { side: cap },
+            Reply::Fmt {
+                format: format(b"FWHT", 352, 288, 152_108),
+            },
+        ),
+        Step::Call(
+            Call::EnumFmt {
+                side: out,
+                index: 3,
+            },
+            Reply::Desc {
+                fourcc: Fourcc(*b"YUYV"),
+            },
+        ),
+        refuses(
+            Call::EnumFmt {
+                side: out,
+                index: 4,
+            },
+            Errno::Inval,
+        ),
+        refuses(
+            Call::EnumFmt {
+                side: cap,
+                index: 1,
+            },
+            Errno::Inval,
+        ),
+        Step::Call(
+            Call::SetFmt {
+                side: out,
+                want: format(b"YUYV", 17, 17, 0),
+            },
+            Reply::Fmt {
+                format: format(b"YUYV", 18, 17, 612),
+            },
+        ),
+        Step::Call(
+            Call::GetFmt { side: cap },
+            Reply::Fmt {
+                format: format(b"FWHT", 18, 17, 1388),
+            },
+        ),
+        Step::Call(
+            Call::TryFmt {
+                side: out,
+                want: format(b"ZZZZ", 1, 1, 0),
+            },
+            Reply::Fmt {
+                format: format(b"YU12", 16, 16, 384),
+            },
+        ),
+        Step::Call(
+            Call::TryFmt {
+                side: out,
+                want: format(b"GREY", 5000, 5000, 0),
+            },
+            Reply::Fmt {
+                format: format(b"GREY", 4096, 2160, 8_847_360),
+            },
+        ),
+        Step::Call(
+            Call::GetFmt { side: out },
+            Reply::Fmt {
+                format: format(b"YUYV", 18, 17, 612),
+            },
+        ),
+        Step::Call(
+            Call::CreateBufs {
+                side: cap,
+                count: 1,
+                length: 2000,
+            },
+            Reply::Created { index: 0, count: 1 },
+        ),
+        refuses(
+            Call::SetFmt {
+                side: out,
+                want: format(b"GREY", 16, 16, 0),
+            },
+            Errno::Busy,
+        ),
+    ];
+    play(&rt, rt.alloc(), &rows)?;
+    Ok(())
+}
+
+#[test]
+fn controls_have_ranges(rt: HostRuntime) -> Result<(), Fail> {
+    let rows = [
+        Step::Call(Call::GetCtrl { id: 1 }, Reply::Value { value: 10 }),
+        refuses(Call::SetCtrl { id: 1, value: 17 }, Errno::Inval),
+        refuses(Call::SetCtrl { id: 5, value: 1 }, Errno::Inval),
+        Step::Call(Call::GetCtrl { id: 5 }, Reply::Value { value: 1 }),
+        refuses(Call::GetCtrl { id: 4 }, Errno::Inval),
+        done(Call::SetCtrl { id: 2, value: 31 }),
+        Step::Call(Call::GetCtrl { id: 2 }, Reply::Value { value: 31 }),
+    ];
+    play(&rt, rt.alloc(), &rows)?;
+    Ok(())
+}
+
+/// Makes `count` buffers.
+fn req(side: Side, count: u32) -> Step {
+    Step::Call(Call::ReqBufs { side, count }, Reply::Count { count })
+}
+
+/// The command START, which is 0, or STOP, which is 1.
+fn command(cmd: u32) -> Call {
+    Call::EncCmd { cmd }
+}
+
+fn queue(side: Side, index: u32, used: u32, stamp: u64) -> Call {
+    Call::QBuf {
+        side,
+        index,
+        used,
+        stamp: Stamp(stamp),
+    }
+}
+
+fn take(side: Side) -> Call {
+    Call::DqBuf { side, block: false }
+}
+
+/// Takes buffer 0.
+fn takes(side: Side, used: u32, flags: u32, seq: u64, stamp: u64) -> Step {
+    let reply = Reply::Taken {
+        index: 0,
+        used,
+        flags,
+        seq,
+        stamp: Stamp(stamp),
+    };
+    Step::Call(take(side), reply)
+}
+
+#[test]
+fn a_drain_of_nothing_ends_with_an_empty_buffer(rt: HostRuntime) -> Result<(), Fail> {
+    let cap = Side::Cap;
+    let rows = [
+        req(Side::Out, 1),
+        req(cap, 1),
+        done(Call::StreamOn { side: Side::Out }),
+        done(Call::StreamOn { side: cap }),
+        done(Call::Subscribe { event: 2 }),
+        done(command(1)),
+        refuses(command(1), Errno::Busy),
+        refuses(command(0), Errno::Busy),
+        refuses(take(cap), Errno::Again),
+        done(queue(cap, 0, 0, 0)),
+        takes(cap, 0, 0x10_0000, 0, 0),
+        Step::Call(
+            Call::DqEvent { block: false },
+            Reply::Happened {
+                event: 2,
+                seq: 0,
+                changes: 0,
+                pending: 0,
+            },
+        ),
+        refuses(Call::DqEvent { block: false }, Errno::NoEnt),
+        refuses(take(cap), Errno::Pipe),
+        Step::Call(
+            Call::Poll,
+            Reply::Ready {
+                read: true,
+                write: false,
+                urgent: false,
+            },
+        ),
+        done(command(1)),
+        done(command(0)),
+        done(queue(cap, 0, 0, 0)),
+        refuses(take(cap), Errno::Again),
+        Step::Call(
+            Call::DqBuf {
+                side: cap,
+                block: true,
+            },
+            Reply::Blocked,
+        ),
+        refuses(command(7), Errno::Inval),
+        refuses(Call::DecCmd { cmd: 0 }, Errno::NoTty),
+    ];
+    play(&rt, rt.alloc(), &rows)?;
+    Ok(())
+}
+
+#[test]
+fn a_drain_needs_both_queues(rt: HostRuntime) -> Result<(), Fail> {
+    let cap = Side::Cap;
+    let rows = [
+        req(Side::Out, 1),
+        req(cap, 1),
+        done(Call::StreamOn { side: Side::Out }),
+        done(command(1)),
+        done(Call::StreamOn { side: cap }),
+        done(queue(cap, 0, 0, 0)),
+        refuses(take(cap), Errno::Again),
+        refuses(
+            Call::ReqBufs {
+                side: Side::Out,
+                count: 1,
+            },
+            Errno::Busy,
+        ),
+    ];
+    play(&rt, rt.alloc(), &rows)?;
+    Ok(())
+}
+
+#[test]
+fn runs_bring_frames_and_faults(rt: HostRuntime) -> Result<(), Fail> {
+    let out = Side::Out;
+    let cap = Side::Cap;
+    let rows = [
+        Step::Call(
+            Call::SetFmt {
+                side: out,
+                want: format(b"GREY", 16, 16, 0),
+            },
+            Reply::Fmt {
+                format: format(b"GREY", 16, 16, 256),
+            },
+        ),
+        req(out, 1),
+        req(cap, 1),
+        refuses(queue(out, 0, 255, 5), Errno::Inval),
+        done(queue(out, 0, 256, 5)),
+        done(queue(cap, 0, 0, 0)),
+        done(Call::StreamOn { side: out }),
+        done(Call::StreamOn { side: cap }),
+        Step::Frame { key: true },
+        takes(cap, 8, 0x8, 0, 5),
+        takes(out, 256, 0, 0, 5),
+        done(queue(out, 0, 256, 6)),
+        done(queue(cap, 0, 0, 0)),
+        done(command(1)),
+        Step::Frame { key: false },
+        takes(out, 256, 0, 1, 6),
+        takes(cap, 8, 0x10_0010, 1, 6),
+        done(command(0)),
+        done(queue(out, 0, 256, 7)),
+        done(queue(cap, 0, 0, 0)),
+        Step::Fault,
+        takes(out, 256, 0x40, 2, 7),
+        takes(cap, 0, 0x40, 2, 7),
+        done(Call::StreamOff { side: cap }),
+        done(Call::StreamOff { side: out }),
+    ];
+    play(&rt, rt.alloc(), &rows)?;
     Ok(())
 }
