@@ -4,6 +4,7 @@ pub mod Closing
 pub mod Dealing
 pub mod DeviceJobs
 pub mod Fitting
+pub mod Growing
 pub mod Holding
 pub mod KeepingJobs
 pub mod Logs

@@ -11,11 +11,6 @@ use Rattle.vc_context.specs.Payloads.{Moves, handed_over}
 use Rattle.vc_shared.specs.Histories.{after}
 use Rattle.vc_shared.specs.Handles.{HandleState}
 
--- it is the handle of the same slot of the same device
-pub record IsSameHandle (old new : HandleState) : Type 0 where
-  pub device : new.device ≡ old.device
-  pub slot : new.slot ≡ old.slot
-
 -- memory was found, unless the reply says that it was not
 abbrev pub found_for : Reply → Bool
 found_for (Refused NoMem) = false

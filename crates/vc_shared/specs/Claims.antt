@@ -11,11 +11,6 @@ use Rattle.vc_port.specs.declared.station.Claimed.{Claimed}
 use Rattle.vc_port.specs.declared.station.Claimed.TheVariants as gave
 use Rattle.vc_shared.specs.Workers.{WorkerState, slot_had, job_had}
 
--- it is the seat of the same worker of the same device
-pub record IsSameWorker (old new : WorkerState) : Type 0 where
-  pub device : new.device ≡ old.device
-  pub worker : new.worker ≡ old.worker
-
 -- The claim is one more entry of the history. The job is the one that the device gives there, with its data, and the worker has
 -- it now.
 pub record ClaimsJob (old new : WorkerState) (given : Job) : Type 0 where

@@ -2,6 +2,7 @@ pub mod Calls
 pub mod Claiming
 pub mod Claims
 pub mod Closing
+pub mod Following
 pub mod Handles
 pub mod Histories
 pub mod Joining

@@ -3,7 +3,8 @@ ghost use Rattle.std.specs.Prelude.{◌≡◌, ◌≢◌};
 ghost use Rattle.vc_base.specs.declared.Reply.TheVariants.{Blocked};
 ghost use Rattle.vc_context.specs.Payloads.{handed_over};
 ghost use Rattle.vc_port.specs.Payloads.{IsCallOn};
-ghost use Rattle.vc_shared.specs.Handles.{handle_at, slot_events, IsSlotSeat};
+ghost use Rattle.vc_shared.specs.Following.{SeatGrows};
+ghost use Rattle.vc_shared.specs.Handles.{seat_of, handle_at, slot_events, IsSlotSeat};
 ghost use Rattle.vc_shared.specs.Calls.{found_for, AnswersCall, BlocksCall, ShutsDevice};
 
 use crate::held::{Held, Sizes};
@@ -41,6 +42,7 @@ fn make_with<B: HandedOver, R: Wait>(
     requires seat { IsSlotSeat seat.old sizes slot hold.old }
     requires bytes { B.bytes ≡ handed_over request.now hold.old }
     ensures lock { seat.new.turn ≡ seat.old.turn }
+    ensures knows { SeatGrows (seat_of seat.old) (seat_of seat.new) }
     ensures seat { IsSlotSeat seat.new sizes slot hold.new }
     ensures solo { IsCallOn (slot_events (handle_at seat.old sizes slot hold.old)) hold.old request.now result (slot_events (handle_at seat.new sizes slot hold.new)) hold.new }
     ensures blocked { result ≡ Blocked → BlocksCall (handle_at seat.old sizes slot hold.old) (handle_at seat.new sizes slot hold.new) request.now }
@@ -71,6 +73,7 @@ pub(crate) fn make_call<R: Wait>(
     requires own { seat.old.turn ≡ turn.now }
     requires seat { IsSlotSeat seat.old sizes slot hold.old }
     ensures lock { seat.new.turn ≡ seat.old.turn }
+    ensures knows { SeatGrows (seat_of seat.old) (seat_of seat.new) }
     ensures seat { IsSlotSeat seat.new sizes slot hold.new }
     ensures solo { IsCallOn (slot_events (handle_at seat.old sizes slot hold.old)) hold.old request.now result (slot_events (handle_at seat.new sizes slot hold.new)) hold.new }
     ensures blocked { result ≡ Blocked → BlocksCall (handle_at seat.old sizes slot hold.old) (handle_at seat.new sizes slot hold.new) request.now }

@@ -4,7 +4,8 @@ ghost use Rattle.std.specs.Option.{option_map};
 ghost use Rattle.vc_base.specs.declared.Reply.TheVariants.{Blocked};
 ghost use Rattle.vc_queue.specs.Holds.{held_payload, with_payload, written_over, HasRoom, HaveOneLength};
 ghost use Rattle.vc_port.specs.Payloads.{IsCallOn};
-ghost use Rattle.vc_shared.specs.Calls.{IsSameHandle, AnswersCall, BlocksCall, ShutsDevice};
+ghost use Rattle.vc_shared.specs.Following.{HandleFollows};
+ghost use Rattle.vc_shared.specs.Calls.{AnswersCall, BlocksCall, ShutsDevice};
 
 use crate::handle_seat::HandleSeat;
 use crate::shared::Shared;
@@ -123,7 +124,7 @@ impl<'a, R: Wait> Handle<'a, R> {
 
     /// The call, of which `call` has the clauses.
     pub(crate) fn make(&mut self, call: &Call) -> Reply
-        ensures same { IsSameHandle self.old self.new }
+        ensures follows { HandleFollows self.old self.new }
         ensures solo { IsCallOn (slot_events self.old) self.old.hold call.now result (slot_events self.new) self.new.hold }
         ensures blocked { result ≡ Blocked → BlocksCall self.old self.new call.now }
         ensures answered { result ≢ Blocked → AnswersCall self.old self.new call.now result }
@@ -155,7 +156,7 @@ impl<'a, R: Wait + Sync> Handle<'a, R> {
     /// Makes a call on the slot, in a turn of its own. An answered call is one entry of the history. Where the answer is
     /// Blocked nothing is noted and nothing changes. It waits for its turn, and may wait for ever.
     pub fn call(&mut self, call: &Call) -> Reply
-        ensures same { IsSameHandle self.old self.new }
+        ensures follows { HandleFollows self.old self.new }
         ensures solo { IsCallOn (slot_events self.old) self.old.hold call.now result (slot_events self.new) self.new.hold }
         ensures blocked { result ≡ Blocked → BlocksCall self.old self.new call.now }
         ensures answered { result ≢ Blocked → AnswersCall self.old self.new call.now result }
@@ -166,7 +167,7 @@ impl<'a, R: Wait + Sync> Handle<'a, R> {
 
     /// Marks the device as shut, which is one entry of the history. It waits for its turn.
     pub fn shut(&mut self)
-        ensures same { IsSameHandle self.old self.new }
+        ensures follows { HandleFollows self.old self.new }
         ensures shut { ShutsDevice self.old self.new }
         ensures ready { IsHandle self.new }
     {

@@ -5,7 +5,8 @@ ghost use Rattle.vc_base.specs.declared.Reply.TheVariants.{Blocked};
 ghost use Rattle.vc_turn.specs.Place.{fresh_place};
 ghost use Rattle.vc_queue.specs.Holds.{held_payload, with_payload, written_over, HasRoom, HaveOneLength};
 ghost use Rattle.vc_port.specs.Payloads.{IsCallOn};
-ghost use Rattle.vc_shared.specs.Calls.{IsSameHandle, AnswersCall, BlocksCall, ShutsDevice};
+ghost use Rattle.vc_shared.specs.Following.{HandleFollows};
+ghost use Rattle.vc_shared.specs.Calls.{AnswersCall, BlocksCall, ShutsDevice};
 
 use crate::calls::make_call;
 use crate::held::{Held, Sizes};
@@ -78,7 +79,7 @@ impl HandleSeat {
     /// Makes a call in a turn of its own.
     pub(crate) fn call<R: Wait>(&mut self, rt: &R, turn: &Turn<Held>, call: &Call) -> Reply
         requires { self.old.device.lock ≡ turn.now }
-        ensures same { IsSameHandle self.old self.new }
+        ensures follows { HandleFollows self.old self.new }
         ensures solo { IsCallOn (slot_events self.old) self.old.hold call.now result (slot_events self.new) self.new.hold }
         ensures blocked { result ≡ Blocked → BlocksCall self.old self.new call.now }
         ensures answered { result ≢ Blocked → AnswersCall self.old self.new call.now result }
@@ -98,7 +99,7 @@ impl HandleSeat {
     /// Marks the device as shut, in a turn of its own.
     pub(crate) fn shut<R: Wait>(&mut self, rt: &R, turn: &Turn<Held>)
         requires { self.old.device.lock ≡ turn.now }
-        ensures same { IsSameHandle self.old self.new }
+        ensures follows { HandleFollows self.old self.new }
         ensures shut { ShutsDevice self.old self.new }
         ensures ready { IsHandle self.new }
     {

@@ -44,7 +44,8 @@ impl JobSeat {
     ghost use Rattle.vc_shared.specs.Handles.{device_of};
     ghost use Rattle.vc_shared.specs.Joining.{IsSeatAt};
     ghost use Rattle.vc_shared.specs.Workers.{new_worker, slot_had, IsWorker};
-    ghost use Rattle.vc_shared.specs.Claims.{IsSameWorker, IsClaim, IsOfItsJob, FinishesJob};
+    ghost use Rattle.vc_shared.specs.Following.{WorkerFollows};
+    ghost use Rattle.vc_shared.specs.Claims.{IsClaim, IsOfItsJob, FinishesJob};
 
     /// The seat of a worker, with the seat at the lock whose number comes so many behind the slots'.
     pub(crate) fn new(seat: TurnSeat<Held>, sizes: Sizes, worker: u32) -> JobSeat
@@ -85,7 +86,7 @@ impl JobSeat {
     pub(crate) fn claim<R: Wait>(&mut self, rt: &R, turn: &Turn<Held>) -> Claimed
         requires lock { self.old.device.lock ≡ turn.now }
         requires free { slot_had self.old ≡ None }
-        ensures same { IsSameWorker self.old self.new }
+        ensures follows { WorkerFollows self.old self.new }
         ensures claimed { IsClaim self.old self.new result }
         ensures over { self.new.over ≡ is_over result }
     {
@@ -111,7 +112,7 @@ impl JobSeat {
     pub(crate) fn finish<R: Wait>(&mut self, rt: &R, turn: &Turn<Held>, finished: Finished)
         requires lock { self.old.device.lock ≡ turn.now }
         requires job { IsOfItsJob self.old finished }
-        ensures same { IsSameWorker self.old self.new }
+        ensures follows { WorkerFollows self.old self.new }
         ensures finished { FinishesJob self.old self.new (is_fault finished) }
         ensures over { self.new.over ≡ self.old.over }
     {

@@ -67,12 +67,13 @@ impl<'a, R> WorkerSeat<'a, R> {
 
 impl<'a, R: Wait> WorkerSeat<'a, R> {
     ghost use Rattle.vc_shared.specs.Workers.{slot_had, IsWorker};
-    ghost use Rattle.vc_shared.specs.Claims.{IsSameWorker, IsClaim, IsOfItsJob, FinishesJob};
+    ghost use Rattle.vc_shared.specs.Following.{WorkerFollows};
+    ghost use Rattle.vc_shared.specs.Claims.{IsClaim, IsOfItsJob, FinishesJob};
 
     /// The claim, of which `claim` has the clauses.
     pub(crate) fn take_job(&mut self) -> Claimed
         requires { slot_had self.old ≡ None }
-        ensures same { IsSameWorker self.old self.new }
+        ensures follows { WorkerFollows self.old self.new }
         ensures claimed { IsClaim self.old self.new result }
         ensures over { self.new.over ≡ is_over result }
         ensures ready { IsWorker self.new }
@@ -88,7 +89,7 @@ impl<'a, R: Wait> WorkerSeat<'a, R> {
     /// The finish, of which `finish` has the clauses.
     pub(crate) fn bring_back(&mut self, finished: Finished)
         requires { IsOfItsJob self.old finished }
-        ensures same { IsSameWorker self.old self.new }
+        ensures follows { WorkerFollows self.old self.new }
         ensures finished { FinishesJob self.old self.new (is_fault finished) }
         ensures over { self.new.over ≡ self.old.over }
         ensures ready { IsWorker self.new }
@@ -112,14 +113,15 @@ impl<'a, R: Wait> WorkerSeat<'a, R> {
 
 impl<'a, R: Wait + Sync> WorkerSeat<'a, R> {
     ghost use Rattle.vc_shared.specs.Workers.{slot_had, IsWorker};
-    ghost use Rattle.vc_shared.specs.Claims.{IsSameWorker, IsClaim, IsOfItsJob, FinishesJob};
+    ghost use Rattle.vc_shared.specs.Following.{WorkerFollows};
+    ghost use Rattle.vc_shared.specs.Claims.{IsClaim, IsOfItsJob, FinishesJob};
 
     /// Claims the job of the slot that waits longest, in a turn of its own: it is one entry of the history. Where no slot
     /// waits it is none, and the answer is Empty, or Over where the device is shut. The worker has no job. It waits for
     /// its turn, and may wait for ever.
     pub fn claim(&mut self) -> Claimed
         requires { slot_had self.old ≡ None }
-        ensures same { IsSameWorker self.old self.new }
+        ensures follows { WorkerFollows self.old self.new }
         ensures claimed { IsClaim self.old self.new result }
         ensures over { self.new.over ≡ is_over result }
         ensures ready { IsWorker self.new }
@@ -130,7 +132,7 @@ impl<'a, R: Wait + Sync> WorkerSeat<'a, R> {
     /// Brings back the job of the worker, run or given up: it is one entry of the history. It waits for its turn.
     pub fn finish(&mut self, finished: Finished)
         requires { IsOfItsJob self.old finished }
-        ensures same { IsSameWorker self.old self.new }
+        ensures follows { WorkerFollows self.old self.new }
         ensures finished { FinishesJob self.old self.new (is_fault finished) }
         ensures over { self.new.over ≡ self.old.over }
         ensures ready { IsWorker self.new }

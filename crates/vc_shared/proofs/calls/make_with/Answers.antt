@@ -7,7 +7,9 @@ use Rattle.vc_core.specs.Steps.{IsCall}
 use Rattle.vc_model.specs.Devices.{slot_of}
 use Rattle.vc_shared.specs.Histories.{StandsForLog}
 use Rattle.vc_port.specs.Payloads.{IsCallOn}
-use Rattle.vc_shared.specs.Handles.{handle_at, slot_events, IsSlotSeat}
+use Rattle.vc_shared.specs.Following.{SeatGrows}
+use Rattle.vc_shared.proofs.Growing.{adds_grow, looked_grows}
+use Rattle.vc_shared.specs.Handles.{seat_of, handle_at, slot_events, IsSlotSeat}
 use Rattle.vc_shared.specs.Calls.{found_for, AnswersCall, BlocksCall}
 use Rattle.vc_shared.proofs.Resting.{in_turn, ended, ended_is, looked_is, seen_after}
 use Rattle.vc_shared.proofs.Answering.{call_made, call_blocked, fits_in_turn, few_steps}
@@ -42,6 +44,13 @@ returns-in-Blocked-clause-seat g c =
     let is = subst (λ x. IsCall c.enter-core.result c.args.slot c.args.request.now c.args.hold.now x c.call-reply.new.self) c.in-Blocked.is r.step in
     let moves = subst (λ x. Moves (slot_of c.enter-core.result c.args.slot) c.args.request.now x c.args.hold.now c.call-reply.new.hold) c.in-Blocked.is r.payloads in
     subst (λ q. IsSlotSeat q c.args.sizes c.args.slot c.call-reply.new.hold) (sym (looked_is c.args.seat.now c.enter-core.new.seat c.put.new.seat e.turn c.put.ensures)) (call_blocked c.args.seat.now c.args.sizes c.args.slot c.enter-core.new.seat.ticket c.enter-core.new.seat.seen c.enter-core.result c.call-reply.new.self c.args.request.now c.args.hold.now c.call-reply.new.hold c.requires.seat t is moves).seat
+
+pub returns-in-Blocked-clause-knows : goal.returns-in-Blocked-clause-knows
+returns-in-Blocked-clause-knows g c =
+    let e = c.enter-core.ensures in
+    let a = c.args in
+    let t = in_turn _ _ a.seat.now c.enter-core.new.seat c.enter-core.result e.turn e.seen e.own e.core in
+    subst (λ q. SeatGrows (seat_of a.seat.now) (seat_of q)) (sym (looked_is a.seat.now c.enter-core.new.seat c.put.new.seat e.turn c.put.ensures)) (looked_grows a.seat.now c.enter-core.new.seat.seen c.enter-core.new.seat.ticket e.seen)
 
 pub returns-in-Blocked-clause-solo : goal.returns-in-Blocked-clause-solo
 returns-in-Blocked-clause-solo g c =
@@ -88,6 +97,7 @@ returns-in_default g c =
     let same = sym (is ∙ ap (λ (x : DeviceEvent). ended c.args.seat.now c.enter-core.new.seat.seen c.enter-core.new.seat.ticket x) named) in
     record {
       lock = ap (λ (x : Place). x.turn) is;
+      knows = subst (λ q. SeatGrows (seat_of c.args.seat.now) (seat_of q)) same (adds_grow (seat_of c.args.seat.now) _ _ made.answers.answered.adds);
       seat = subst (λ q. IsSlotSeat q c.args.sizes c.args.slot c.call-reply.new.hold) same made.seat;
       solo = subst (λ q. IsCallOn (slot_events (handle_at c.args.seat.now c.args.sizes c.args.slot c.args.hold.now)) c.args.hold.now c.args.request.now c.call-reply.result (slot_events (handle_at q c.args.sizes c.args.slot c.call-reply.new.hold)) c.call-reply.new.hold) same made.solo;
       blocked = λ was. absurd (c.in_default.not-Blocked was);

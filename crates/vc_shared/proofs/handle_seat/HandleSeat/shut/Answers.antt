@@ -1,7 +1,9 @@
 use Rattle.std.proofs.Common.{refl, sym, subst}
 use Rattle.vc_base.specs.Device.{shut}
 use Rattle.vc_shared.specs.Histories.{StandsForLog}
-use Rattle.vc_shared.specs.Handles.{HandleState, handle_at, IsSlotSeat}
+use Rattle.vc_shared.specs.Following.{HandleFollows}
+use Rattle.vc_shared.proofs.Growing.{adds_grow}
+use Rattle.vc_shared.specs.Handles.{HandleState, seat_of, handle_at, IsSlotSeat}
 use Rattle.vc_shared.specs.Calls.{ShutsDevice}
 use Rattle.vc_shared.proofs.Resting.{in_turn, ended_is, seen_after, is_handle}
 use Rattle.vc_shared.proofs.Answering.{few_steps}
@@ -45,3 +47,13 @@ returns-clause-ready g c =
     let t = in_turn _ _ s.seat c.enter-core.new.seat c.enter-core.result e.turn e.seen e.own e.core in
     let made = shut_made s.seat s.sizes s.slot c.enter-core.new.seat.ticket c.enter-core.new.seat.seen c.enter-core.result c.shut.new.self s.hold c.self.invariant t c.shut.ensures in
     is_handle c.put.new.seat s.sizes s.slot s.hold (subst (λ q. IsSlotSeat q s.sizes s.slot s.hold) (sym (ended_is s.seat c.enter-core.new.seat c.note_shut.new.seat c.put.new.seat shut e.turn c.note_shut.ensures.noted c.put.ensures)) made.seat)
+
+pub returns-clause-follows : goal.returns-clause-follows
+returns-clause-follows g c =
+    let e = c.enter-core.ensures in
+    let s = c.self.inside in
+    let t = in_turn _ _ s.seat c.enter-core.new.seat c.enter-core.result e.turn e.seen e.own e.core in
+    let made = shut_made s.seat s.sizes s.slot c.enter-core.new.seat.ticket c.enter-core.new.seat.seen c.enter-core.result c.shut.new.self s.hold c.self.invariant t c.shut.ensures in
+    let is = sym (ended_is s.seat c.enter-core.new.seat c.note_shut.new.seat c.put.new.seat shut e.turn c.note_shut.ensures.noted c.put.ensures) in
+    let grows = adds_grow (seat_of s.seat) _ shut made.shuts.shut.adds in
+    subst (λ (v : HandleState). HandleFollows v (handle_at c.put.new.seat s.sizes s.slot s.hold)) c.self.view_is (subst (λ q. HandleFollows (handle_at s.seat s.sizes s.slot s.hold) (handle_at q s.sizes s.slot s.hold)) is (record { device = refl; slot = refl; knows = grows }))

@@ -1,7 +1,10 @@
-use Rattle.std.proofs.Common.{sym, ap, ◌∙◌, subst}
+use Rattle.std.proofs.Common.{refl, sym, ap, ◌∙◌, subst}
 use Rattle.vc_base.specs.Device.{finish}
 use Rattle.vc_core.specs.Jobs.{is_fault}
 use Rattle.vc_shared.specs.Histories.{StandsForLog}
+use Rattle.vc_shared.specs.Following.{WorkerFollows}
+use Rattle.vc_shared.specs.Handles.{seat_of}
+use Rattle.vc_shared.proofs.Growing.{adds_grow}
 use Rattle.vc_shared.specs.Workers.{WorkerState, worker_at, IsWorkerSeat}
 use Rattle.vc_shared.specs.Claims.{IsOfItsJob, FinishesJob}
 use Rattle.vc_shared.proofs.Resting.{in_turn, ended, ended_is, seen_after}
@@ -51,3 +54,15 @@ returns-clause-finished g c =
     let is = ended_is s.seat c.enter-core.new.seat c.note_finish.new.seat c.put.new.seat (finish s.worker c.is_fault-fault.result) e.turn c.note_finish.ensures.noted c.put.ensures in
     let here = sym (is ∙ ap (λ b. ended s.seat c.enter-core.new.seat.seen c.enter-core.new.seat.ticket (finish s.worker b)) c.is_fault-fault.ensures) in
     subst (λ (v : WorkerState). FinishesJob v (worker_at c.put.new.seat s.sizes s.worker s.over) (is_fault c.args.finished)) c.self.view_is (subst (λ q. FinishesJob (worker_at s.seat s.sizes s.worker s.over) (worker_at q s.sizes s.worker s.over) (is_fault c.args.finished)) here made.finishes)
+
+pub returns-clause-follows : goal.returns-clause-follows
+returns-clause-follows g c =
+    let e = c.enter-core.ensures in
+    let s = c.self.inside in
+    let r = c.finish.ensures in
+    let t = in_turn _ _ s.seat c.enter-core.new.seat c.enter-core.result e.turn e.seen e.own e.core in
+    let made = finish_made s.seat s.sizes s.worker c.enter-core.new.seat.ticket s.over c.enter-core.new.seat.seen c.enter-core.result c.finish.new.self c.args.finished c.self.invariant t (subst (λ (v : WorkerState). IsOfItsJob v c.args.finished) (sym c.self.view_is) c.requires.job) r.step r.size r.crew in
+    let is = ended_is s.seat c.enter-core.new.seat c.note_finish.new.seat c.put.new.seat (finish s.worker c.is_fault-fault.result) e.turn c.note_finish.ensures.noted c.put.ensures in
+    let here = sym (is ∙ ap (λ b. ended s.seat c.enter-core.new.seat.seen c.enter-core.new.seat.ticket (finish s.worker b)) c.is_fault-fault.ensures) in
+    let grows = adds_grow (seat_of s.seat) _ (finish s.worker (is_fault c.args.finished)) made.finishes.finished.adds in
+    subst (λ (v : WorkerState). WorkerFollows v (worker_at c.put.new.seat s.sizes s.worker s.over)) c.self.view_is (subst (λ q. WorkerFollows (worker_at s.seat s.sizes s.worker s.over) (worker_at q s.sizes s.worker s.over)) here (record { device = refl; worker = refl; knows = grows }))
