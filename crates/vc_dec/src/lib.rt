@@ -154,3 +154,6 @@ impl Decoder {
         }
     }
 }
+
+#[cfg(test)]
+mod tests;
