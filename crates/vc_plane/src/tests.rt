@@ -3,9 +3,10 @@
 ghost use Rattle.std.specs.Prelude.{◌≡◌};
 
 use super::*;
-use std::test::Fail;
 use vc_defs::Damaged;
 use vc_fwht::{FastTransform, PlainTransform, Transform};
+use vc_quant::dequantise;
+use vc_rlc::read_block;
 
 /// A frame of 16 by 16 samples.
 fn shape(inter: bool, qp: u32) -> Shape
@@ -96,33 +97,59 @@ fn is_read_back<T: Transform>(t: &T, plane: &[u8; 256], inter: bool, qp: u32) ->
 }
 
 #[test]
-fn planes_are_written(rt: HostRuntime) -> Result<(), Fail> {
+fn the_first_value_alone_is_at_every_place(rt: HostRuntime) {
+    let mut q = [0; 64];
+    let Ok(end) = read_block(&[127, 0, 0, 15], 0, &mut q) else {
+        panic!(rt; "the words are damaged")
+    };
+    assert_eq!(rt; (end, q[0]), (4, 2032));
+    assert_eq!(rt; FastTransform.inverse(&dequantise(&q, true)), [8128; 64]);
+}
+
+/// Whether an intra plane of equal samples is written as these words, and becomes the reference.
+fn is_spelled(sample: u8, words: &[u8]) -> bool {
     let mut reference = [7; 256];
     let mut out = [9; 300];
+    let shape = shape(false, 20);
     let written = write_plane(
         &FastTransform,
-        &[128; 256],
+        &[sample; 256],
         &mut reference,
-        &shape(false, 20),
+        &shape,
         &mut out,
         1,
     );
-    assert_eq!(rt; written, Written { end: 5, raw: false });
-    assert!(rt; out.starts_with(&[9, 0, 6, 0, 15, 9]));
-    assert_eq!(rt; reference, [128; 256]);
+    !written.raw
+        && written.end == 1 + words.len()
+        && out[1..].starts_with(words)
+        && (out[0], out[299]) == (9, 9)
+        && reference == [sample; 256]
+}
 
-    let mut plane = [0; 256];
-    for k in 0..256 {
-        plane[k] = ((k * k * 37 + k * 101) % 256) as u8;
+#[test]
+fn planes_of_one_sample_have_one_entry(rt: HostRuntime) {
+    let rows: [(u8, &[u8]); 3] = [
+        (128, &[0, 6, 0, 15]),
+        (255, &[0, 6, 127, 0, 0, 15]),
+        (0, &[0, 6, 128, 0, 0, 15]),
+    ];
+    for (sample, words) in rows {
+        assert!(rt; is_spelled(sample, words), "{sample}");
     }
-    let written = write_plane(
-        &PlainTransform,
-        &plane,
-        &mut reference,
-        &shape(true, 1),
-        &mut out,
-        1,
-    );
+}
+
+#[test]
+fn a_plane_whose_words_are_longer_is_raw(rt: HostRuntime) {
+    let mut plane = [128; 256];
+    let mut stored = [128; 256];
+    for (place, sample, kept) in [(0, 255, 254), (8, 0, 0), (128, 255, 254), (136, 0, 0)] {
+        plane[place] = sample;
+        stored[place] = kept;
+    }
+    let mut reference = [7; 256];
+    let mut out = [9; 258];
+    let shape = shape(false, 1);
+    let written = write_plane(&PlainTransform, &plane, &mut reference, &shape, &mut out, 1);
     assert_eq!(rt;
         written,
         Written {
@@ -130,11 +157,19 @@ fn planes_are_written(rt: HostRuntime) -> Result<(), Fail> {
             raw: true
         }
     );
-    assert_eq!(rt; (out[1], out[2]), (plane[0], plane[1]));
+    assert_eq!(rt; &out[1..257], stored.as_slice());
+    assert_eq!(rt; (out[0], out[257]), (9, 9));
+    assert_eq!(rt; reference, stored);
+}
 
+#[test]
+fn what_is_written_is_read_back(rt: HostRuntime) {
+    let mut plane = [0; 256];
+    for k in 0..256 {
+        plane[k] = ((k * k * 37 + k * 101) % 256) as u8;
+    }
     for inter in [false, true] {
         assert!(rt; is_read_back(&FastTransform, &plane, inter, 5));
         assert!(rt; is_read_back(&PlainTransform, &[250; 256], inter, 5));
     }
-    Ok(())
 }

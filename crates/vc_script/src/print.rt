@@ -4,7 +4,7 @@ ghost use Rattle.vc_script.specs.Texts.{call_verb, takes_capture, fourcc_text, f
 use crate::fields::are_printable;
 use crate::verb::Verb;
 use std::alloc::Global;
-use vc_base::{Call, Fourcc, NoMemory, Reply, Side};
+use vc_base::{Call, Format, Fourcc, NoMemory, Reply, Side};
 
 fn verb_of_call(call: &Call) -> Verb
     ensures { result ≡ call_verb call.now }
@@ -104,26 +104,95 @@ fn put_payload(
     }
 }
 
+// The word `ok` and a buffer: its index, used bytes, flags, number and stamp, and the bytes.
 fn put_taken(
     alloc: Global,
     line: &mut Vec<u8>,
     from_capture: bool,
-    buffer: (u32, u32, u32),
-    seq: u64,
-    stamp: u64,
+    buffer: (u32, u32, u32, u64, u64),
     payload: &[u8],
 ) -> Result<(), NoMemory>
     requires { IsTrue from_capture → buffer.1 ≤ length payload.now }
-    ensures { OnOk result (line.new.items ≡ line.old.items ++ spaced (codes "ok" ∷ decimal buffer.0 ∷ decimal buffer.1 ∷ flag_text buffer.2 ∷ decimal seq ∷ decimal stamp ∷ payload_text from_capture buffer.1 payload.now ∷ [])) }
+    ensures { OnOk result (line.new.items ≡ line.old.items ++ spaced (codes "ok" ∷ decimal buffer.0 ∷ decimal buffer.1 ∷ flag_text buffer.2 ∷ decimal buffer.3 ∷ decimal buffer.4 ∷ payload_text from_capture buffer.1 payload.now ∷ [])) }
 {
-    let (index, used, flags) = buffer;
-    put_word(line, b"ok")?;
-    put_number(alloc, line, u64::from(index))?;
+    let (index, used, flags, seq, stamp) = buffer;
+    put_value(alloc, line, index)?;
     put_number(alloc, line, u64::from(used))?;
     put_flags(alloc, line, flags)?;
     put_number(alloc, line, seq)?;
     put_number(alloc, line, stamp)?;
     put_payload(alloc, line, from_capture, used, payload)
+}
+
+// The words `ok` and the name of a format.
+fn put_name(line: &mut Vec<u8>, fourcc: &Fourcc) -> Result<(), NoMemory>
+    ensures { OnOk result (line.new.items ≡ line.old.items ++ spaced (codes "ok" ∷ fourcc_text fourcc.now ∷ [])) }
+{
+    put_word(line, b"ok")?;
+    put_word(line, fourcc_word(fourcc))
+}
+
+fn put_format(alloc: Global, line: &mut Vec<u8>, format: &Format) -> Result<(), NoMemory>
+    ensures { OnOk result (line.new.items ≡ line.old.items ++ spaced (codes "ok" ∷ fourcc_text format.now.fourcc ∷ decimal format.now.width ∷ decimal format.now.height ∷ decimal format.now.size ∷ [])) }
+{
+    put_name(line, &format.fourcc)?;
+    put_number(alloc, line, u64::from(format.width))?;
+    put_number(alloc, line, u64::from(format.height))?;
+    put_number(alloc, line, u64::from(format.size))
+}
+
+// The word `ok` and a number: how many buffers there are, or the value of a control.
+fn put_value(alloc: Global, line: &mut Vec<u8>, value: u32) -> Result<(), NoMemory>
+    ensures { OnOk result (line.new.items ≡ line.old.items ++ spaced (codes "ok" ∷ decimal value ∷ [])) }
+{
+    put_word(line, b"ok")?;
+    put_number(alloc, line, u64::from(value))
+}
+
+fn put_created(alloc: Global, line: &mut Vec<u8>, index: u32, count: u32) -> Result<(), NoMemory>
+    ensures { OnOk result (line.new.items ≡ line.old.items ++ spaced (codes "ok" ∷ decimal index ∷ decimal count ∷ [])) }
+{
+    put_value(alloc, line, index)?;
+    put_number(alloc, line, u64::from(count))
+}
+
+fn put_info(
+    alloc: Global,
+    line: &mut Vec<u8>,
+    index: u32,
+    size: u32,
+    flags: u32,
+) -> Result<(), NoMemory>
+    ensures { OnOk result (line.new.items ≡ line.old.items ++ spaced (codes "ok" ∷ decimal index ∷ decimal size ∷ flag_text flags ∷ [])) }
+{
+    put_value(alloc, line, index)?;
+    put_number(alloc, line, u64::from(size))?;
+    put_flags(alloc, line, flags)
+}
+
+fn put_happened(
+    alloc: Global,
+    line: &mut Vec<u8>,
+    event: u32,
+    seq: u64,
+    changes: u32,
+    pending: u32,
+) -> Result<(), NoMemory>
+    ensures { OnOk result (line.new.items ≡ line.old.items ++ spaced (codes "ok" ∷ decimal event ∷ decimal seq ∷ decimal changes ∷ decimal pending ∷ [])) }
+{
+    put_value(alloc, line, event)?;
+    put_number(alloc, line, seq)?;
+    put_number(alloc, line, u64::from(changes))?;
+    put_number(alloc, line, u64::from(pending))
+}
+
+fn put_ready(line: &mut Vec<u8>, read: bool, write: bool, urgent: bool) -> Result<(), NoMemory>
+    ensures { OnOk result (line.new.items ≡ line.old.items ++ spaced (codes "ok" ∷ bit_text read ∷ bit_text write ∷ bit_text urgent ∷ [])) }
+{
+    put_word(line, b"ok")?;
+    put_bit(line, read)?;
+    put_bit(line, write)?;
+    put_bit(line, urgent)
 }
 
 fn put_answer(
@@ -138,77 +207,37 @@ fn put_answer(
 {
     match reply {
         Reply::Done => put_word(line, b"ok"),
-        Reply::Desc { fourcc } => {
-            put_word(line, b"ok")?;
-            put_word(line, fourcc_word(fourcc))
-        }
-        Reply::Fmt { format } => {
-            put_word(line, b"ok")?;
-            put_word(line, fourcc_word(&format.fourcc))?;
-            put_number(alloc, line, u64::from(format.width))?;
-            put_number(alloc, line, u64::from(format.height))?;
-            put_number(alloc, line, u64::from(format.size))
-        }
-        Reply::Count { count } => {
-            put_word(line, b"ok")?;
-            put_number(alloc, line, u64::from(*count))
-        }
-        Reply::Created { index, count } => {
-            put_word(line, b"ok")?;
-            put_number(alloc, line, u64::from(*index))?;
-            put_number(alloc, line, u64::from(*count))
-        }
+        Reply::Desc { fourcc } => put_name(line, fourcc),
+        Reply::Fmt { format } => put_format(alloc, line, format),
+        Reply::Count { count } => put_value(alloc, line, *count),
+        Reply::Created { index, count } => put_created(alloc, line, *index, *count),
         Reply::Info {
             index,
             length,
             flags,
-        } => {
-            put_word(line, b"ok")?;
-            put_number(alloc, line, u64::from(*index))?;
-            put_number(alloc, line, u64::from(*length))?;
-            put_flags(alloc, line, *flags)
-        }
+        } => put_info(alloc, line, *index, *length, *flags),
         Reply::Taken {
             index,
             used,
             flags,
             seq,
             stamp,
-        } => put_taken(
-            alloc,
-            line,
-            is_capture_taken(call),
-            (*index, *used, *flags),
-            *seq,
-            stamp.0,
-            payload,
-        ),
+        } => {
+            let buffer = (*index, *used, *flags, *seq, stamp.0);
+            put_taken(alloc, line, is_capture_taken(call), buffer, payload)
+        }
         Reply::Happened {
             event,
             seq,
             changes,
             pending,
-        } => {
-            put_word(line, b"ok")?;
-            put_number(alloc, line, u64::from(*event))?;
-            put_number(alloc, line, *seq)?;
-            put_number(alloc, line, u64::from(*changes))?;
-            put_number(alloc, line, u64::from(*pending))
-        }
-        Reply::Value { value } => {
-            put_word(line, b"ok")?;
-            put_number(alloc, line, u64::from(*value))
-        }
+        } => put_happened(alloc, line, *event, *seq, *changes, *pending),
+        Reply::Value { value } => put_value(alloc, line, *value),
         Reply::Ready {
             read,
             write,
             urgent,
-        } => {
-            put_word(line, b"ok")?;
-            put_bit(line, *read)?;
-            put_bit(line, *write)?;
-            put_bit(line, *urgent)
-        }
+        } => put_ready(line, *read, *write, *urgent),
         Reply::Refused { errno } => put_word(line, errno.name().as_bytes()),
         Reply::Blocked => put_word(line, b"blocked"),
     }
