@@ -2,7 +2,7 @@
 
 ghost use Rattle.std.specs.Prelude.{◌≡◌, ◌≢◌, ◌++◌, ◌∷◌, []};
 ghost use Rattle.vc_base.specs.declared.Reply.TheVariants.{Blocked};
-ghost use Rattle.vc_core.specs.Payloads.{FitsSlot};
+ghost use Rattle.vc_context.specs.Payloads.{FitsSlot};
 ghost use Rattle.vc_port.specs.Payloads.{slot_after, IsCallOn};
 ghost use Rattle.vc_port.specs.Ports.{answered_after};
 
