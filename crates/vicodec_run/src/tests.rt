@@ -1,5 +1,7 @@
 //! Scripts through `top`, with sources and sinks in memory.
 
+mod encoders;
+
 use std::alloc::Global;
 use std::test::Fail;
 use vc_base::NoMemory;
