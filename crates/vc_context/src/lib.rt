@@ -9,3 +9,5 @@ pub mod jobs;
 pub mod laws;
 pub mod refusals;
 pub mod replies;
+#[cfg(test)]
+mod tests;

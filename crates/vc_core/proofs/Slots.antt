@@ -14,11 +14,12 @@ use Rattle.vc_model.specs.Answer.{Answer, answer, closed_answer, context_answer,
 use Rattle.vc_model.specs.Runs.{is_claimable}
 use Rattle.vc_queue.specs.Holds.{HoldState}
 use Rattle.vc_core.specs.declared.slot.Content.{Content}
-use Rattle.vc_core.specs.declared.slot.Content.TheVariants.{Closed, Copying}
+use Rattle.vc_core.specs.declared.slot.Content.TheVariants.{Closed, Copying, Encoding}
 use Rattle.vc_core.specs.declared.copier.Copier.{Copier}
+use Rattle.vc_enc.specs.declared.Encoder.{Encoder}
 use Rattle.vc_core.specs.Contents.{slot_state}
-use Rattle.vc_context.specs.Contexts.{GivesWithMemory}
-use Rattle.vc_core.specs.Slots.{IsAnswer, opened_kind}
+use Rattle.vc_context.specs.Contexts.{GivesWithMemory, IsStep}
+use Rattle.vc_core.specs.Slots.{IsAnswer, IsStepOfSlot, opened_kind}
 use Rattle.vc_context.specs.Payloads.{HoldsNothing, FitsContext, FitsSlot, empty_hold}
 
 pub closed_view : (content : Content) (s : Slot) → slot_state content ≡ s → content ≡ Closed → s ≡ None
@@ -55,17 +56,27 @@ gone_at : (c : Context) (b : Bool) → b ≡ true → let a : Answer = cond b (r
 gone_at c true e = (refl, refl)
 gone_at c false e = absurd (false≢true e)
 
-pub close_blocked : (s : Slot) (c : Context) → Some c ≡ s → is_some c.running ≡ true → IsAnswer s Close [] Blocked s
-unfolding answer context_answer
-close_blocked s c view h =
-    let a = busy_at c (is_none c.running) (runs_at c.running h) in
-    rw (← view) (record { found = true; reply = a.0; slot = a.1; want = λ w. absurd (false≢true (sym w)) })
+running_at : (s : Slot) (b : Bool) → option_map (λ (c : Context). is_some c.running) s ≡ Some b → (c : Context) × (s ≡ Some c) × (is_some c.running ≡ b)
+running_at None b e = cc
+running_at (Some c) b e = (c, refl, (let r : is_some c.running ≡ b = cc in r))
 
-pub close_done : (s : Slot) (c : Context) → Some c ≡ s → is_some c.running ≡ false → IsAnswer s Close [] Done None
+pub close_blocked : (s : Slot) → Some true ≡ option_map (λ (c : Context). is_some c.running) s → IsAnswer s Close [] Blocked s
 unfolding answer context_answer
-close_done s c view h =
-    let a = gone_at c (is_none c.running) (idle_at c.running h) in
-    rw (← view) (record { found = true; reply = a.0; slot = a.1; want = λ w. absurd (false≢true (sym w)) })
+close_blocked s h =
+    let r = running_at s true (sym h) in
+    let a = busy_at r.0 (is_none r.0.running) (runs_at r.0.running r.2) in
+    rw r.1 (record { found = true; reply = a.0; slot = a.1; want = λ w. absurd (false≢true (sym w)) })
+
+pub close_done : (s : Slot) → Some false ≡ option_map (λ (c : Context). is_some c.running) s → IsAnswer s Close [] Done None
+unfolding answer context_answer
+close_done s h =
+    let r = running_at s false (sym h) in
+    let a = gone_at r.0 (is_none r.0.running) (idle_at r.0.running r.2) in
+    rw r.1 (record { found = true; reply = a.0; slot = a.1; want = λ w. absurd (false≢true (sym w)) })
+
+pub closed_there : (s : Slot) → None ≡ option_map (λ (c : Context). is_some c.running) s → s ≡ None
+closed_there None h = refl
+closed_there (Some c) h = cc
 
 -- no payload is held
 
@@ -115,10 +126,13 @@ opened_fits s new kind told hold e a f =
 pub copying_view : (content : Content) (s : Slot) (copier : Box Copier Global) → slot_state content ≡ s → content ≡ Copying copier → Some copier.value ≡ s
 copying_view content s copier view e = sym (ap slot_state e) ∙ view
 
-pub runs_there : (d c : Context) (result b : Bool) → d ≡ c → result ≡ is_some d.running → result ≡ b → is_some c.running ≡ b
-runs_there d c result b e r t =
-    sym (ap (λ (x : Context). is_some x.running) e) ∙ (sym r ∙ t)
+pub encoding_view : (content : Content) (s : Slot) (encoder : Box Encoder Global) → slot_state content ≡ s → content ≡ Encoding encoder → Some encoder.value ≡ s
+encoding_view content s encoder view e = sym (ap slot_state e) ∙ view
 
 pub fits_inside : (s : Slot) (c d : Context) (hold : HoldState) → Some c ≡ s → d ≡ c → FitsSlot s hold → FitsContext d hold
 fits_inside s c d hold view e f =
     subst (λ (x : Context). FitsContext x hold) (sym e) (subst (λ (x : Slot). FitsSlot x hold) (sym view) f)
+
+pub step_inside : (s : Slot) (c d new : Context) → Some c ≡ s → d ≡ c → IsStep d new → IsStepOfSlot s (Some new)
+step_inside s c d new view e step =
+    rw (← view, ← e) (record { kept = step.kept; counted = step.counted })

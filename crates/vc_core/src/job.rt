@@ -23,16 +23,6 @@ impl Model for FitWork {
     ghost invariant = { λ f. Fits f.work };
 }
 
-impl FitWork {
-    /// The work, which fits.
-    pub(crate) fn new(work: Work) -> FitWork
-        requires { Fits work }
-        ensures { result ≡ work }
-    {
-        FitWork { work }
-    }
-}
-
 /// A job: the buffers and all else that its run needs. It is used up by its run, or by being given up.
 #[derive(Drop)]
 pub struct Job {
@@ -54,6 +44,18 @@ impl Job {
     ghost use Rattle.vc_model.specs.Runs.{JobData};
     ghost use Rattle.vc_model.specs.Core.{brought_back};
     ghost use Rattle.vc_core.specs.Jobs.{IsJobOf, Brings, Tells, is_fault};
+
+    /// The job of the slot with this work.
+    pub(crate) fn new(slot: u32, work: Work) -> Job
+        requires { Fits work }
+        ensures slot { result.slot ≡ slot }
+        ensures work { result.work ≡ work }
+    {
+        Job {
+            slot,
+            work: FitWork { work },
+        }
+    }
 
     /// The slot that was claimed.
     pub fn slot(&self) -> u32

@@ -1,13 +1,13 @@
 //! A slot of the device: it is closed, or has a context.
 
-ghost use Rattle.std.specs.Prelude.{◌≡◌, ℕ, true, false, Some, None, List, [], IfSome};
-ghost use Rattle.vc_base.specs.declared.Reply.TheVariants.{Refused};
-ghost use Rattle.vc_base.specs.declared.Errno.TheVariants.{NoMem};
+ghost use Rattle.std.specs.Prelude.{◌≡◌, ℕ, true, false, is_some, Some, None, List, [], IfSome};
+ghost use Rattle.std.specs.Option.{option_map};
+ghost use Rattle.vc_base.specs.declared.Kind.TheVariants.{Copy, Enc};
 ghost use Rattle.vc_base.specs.declared.Call.TheVariants.{Open, Close};
 ghost use Rattle.vc_model.specs.Core.{BroughtBack, claimed_in, before_memory, unless_memory};
 ghost use Rattle.vc_model.specs.Answer.{closed_answer};
 ghost use Rattle.vc_model.specs.Runs.{is_claimable};
-ghost use Rattle.vc_model.specs.Context.{fresh_context};
+ghost use Rattle.vc_model.specs.Context.{Context, fresh_context};
 ghost use Rattle.vc_context.specs.Contexts.{TakesMemory, is_close};
 ghost use Rattle.vc_core.specs.Slots.{IsKeptSlot, IsStepOfSlot, SlotHasRoom, IsAnswer, opened_kind, claimed_slot, finished_slot};
 ghost use Rattle.vc_core.specs.Jobs.{IsJobWith, RunsWith, IsOfSlot, RunsInSlot, Brings};
@@ -15,18 +15,20 @@ ghost use Rattle.vc_queue.specs.Holds.{HoldState};
 ghost use Rattle.vc_context.specs.Payloads.{FitsSlot, Moves, handed_over};
 
 use crate::copier::Copier;
-use crate::job::{Finished, FitWork, Job};
+use crate::job::{Finished, Job};
 use std::alloc::Global;
 use std::marker::Model;
 use vc_base::{Call, Errno, Kind, Reply};
 use vc_context::replies::no_memory;
+use vc_enc::Encoder;
 use vc_queue::hold::Hold;
 
-/// What a slot has. Contexts that encode and decode become further variants.
+/// What a slot has. Contexts that decode become a further variant.
 #[derive(Drop)]
 enum Content {
     Closed,
     Copying(Box<Copier>),
+    Encoding(Box<Encoder>),
 }
 
 /// A slot of the device.
@@ -96,8 +98,10 @@ impl Slot {
         if is_close(call) {
             return self.close(hold);
         }
-        if let Content::Copying(copier) = &mut self.content {
-            return copier.answer(alloc, call, hold);
+        match &mut self.content {
+            Content::Closed => {}
+            Content::Copying(copier) => return copier.answer(alloc, call, hold),
+            Content::Encoding(encoder) => return encoder.answer(alloc, call, hold),
         }
         match opened_kind(call) {
             Some(kind) => self.open(alloc, kind),
@@ -107,21 +111,41 @@ impl Slot {
         }
     }
 
-    /// A slot with a fresh context, where memory for it is found. There are no contexts yet that encode or
-    /// decode: these find none.
+    /// A slot with a fresh copying context, where memory for it is found.
+    fn copying(alloc: Global) -> Option<Slot>
+        ensures { IfSome result (λ slot. slot ≡ Some (fresh_context Copy)) }
+    {
+        let Ok(copier) = Box::new(alloc, Copier::new()) else {
+            return None;
+        };
+        Some(Slot {
+            content: Content::Copying(copier),
+        })
+    }
+
+    /// A slot with a fresh encoder context, where memory for it is found.
+    fn encoding(alloc: Global) -> Option<Slot>
+        ensures { IfSome result (λ slot. slot ≡ Some (fresh_context Enc)) }
+    {
+        let Ok(encoder) = Encoder::make(alloc) else {
+            return None;
+        };
+        let Ok(encoder) = Box::new(alloc, encoder) else {
+            return None;
+        };
+        Some(Slot {
+            content: Content::Encoding(encoder),
+        })
+    }
+
+    /// A slot with a fresh context, where memory for it is found. There are no contexts yet that decode:
+    /// these find none.
     fn opened(alloc: Global, kind: Kind) -> Option<Slot>
         ensures { IfSome result (λ slot. slot ≡ Some (fresh_context kind)) }
     {
         match kind {
-            Kind::Copy => {
-                let Ok(copier) = Box::new(alloc, Copier::new()) else {
-                    return None;
-                };
-                Some(Slot {
-                    content: Content::Copying(copier),
-                })
-            }
-            Kind::Enc => None,
+            Kind::Copy => Slot::copying(alloc),
+            Kind::Enc => Slot::encoding(alloc),
             Kind::Dec => None,
         }
     }
@@ -148,17 +172,28 @@ impl Slot {
         ensures moves { Moves self.old Close result hold.old hold.new }
         ensures fit { FitsSlot self.new hold.new }
     {
-        let Content::Copying(copier) = &self.content else {
+        let Some(running) = self.running() else {
             return Reply::Refused {
                 errno: Errno::NoTty,
             };
         };
-        if copier.is_running() {
+        if running {
             return Reply::Blocked;
         }
         *self = Slot::new();
         *hold = Hold::new();
         Reply::Done
+    }
+
+    /// Whether a job of the slot runs, where it has a context.
+    fn running(&self) -> Option<bool>
+        ensures { result ≡ option_map (λ (c : Context). is_some c.running) self.now }
+    {
+        match &self.content {
+            Content::Closed => None,
+            Content::Copying(copier) => Some(copier.is_running()),
+            Content::Encoding(encoder) => Some(encoder.is_running()),
+        }
     }
 
     /// What Open, ReqBufs or CreateBufs answers before memory is sought.
@@ -169,6 +204,7 @@ impl Slot {
         match &self.content {
             Content::Closed => closed_refusal(call),
             Content::Copying(copier) => copier.refusal(call),
+            Content::Encoding(encoder) => encoder.refusal(call),
         }
     }
 
@@ -179,6 +215,7 @@ impl Slot {
         match &self.content {
             Content::Closed => false,
             Content::Copying(copier) => copier.ready(),
+            Content::Encoding(encoder) => encoder.ready(),
         }
     }
 
@@ -193,12 +230,10 @@ impl Slot {
         ensures runs { RunsWith self.new (claimed_in self.old) }
         ensures holds { (hold : HoldState) → FitsSlot self.old hold → FitsSlot self.new hold }
     {
-        let Content::Copying(copier) = &mut self.content else {
-            unreachable!()
-        };
-        Job {
-            slot,
-            work: FitWork::new(copier.claim()),
+        match &mut self.content {
+            Content::Closed => unreachable!(),
+            Content::Copying(copier) => Job::new(slot, copier.claim()),
+            Content::Encoding(encoder) => Job::new(slot, encoder.claim()),
         }
     }
 
@@ -211,9 +246,15 @@ impl Slot {
         ensures holds { (hold : HoldState) → FitsSlot self.old hold → FitsSlot self.new hold }
         ensures step { IsStepOfSlot self.old self.new }
     {
-        let Content::Copying(copier) = &mut self.content else {
-            unreachable!()
-        };
-        copier.finish(finished.work, finished.outcome);
+        let Finished {
+            slot: _,
+            work,
+            outcome,
+        } = finished;
+        match &mut self.content {
+            Content::Closed => unreachable!(),
+            Content::Copying(copier) => copier.finish(work, outcome),
+            Content::Encoding(encoder) => encoder.finish(work, outcome),
+        }
     }
 }

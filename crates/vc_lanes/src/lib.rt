@@ -1,5 +1,5 @@
 //! The Walsh transform by vectors of eight lanes, for `std::simd`. A lane has a column of the block, and a step of
-//! butterflies is a sum and a difference of whole rows.
+//! butterflies is a sum and a difference of whole rows. The lane engine runs with it.
 #![tactic(auto)]
 
 ghost use Rattle.std.specs.Prelude.{◌≡◌, ◌≢◌, ◌≤◌, ◌<◌, ◌+◌, ◌*◌, ◌/◌, ◌+ℤ◌, ◌-ℤ◌, ℕ, ℤ, pos, neg_ℤ, length, slice_index_or, take, drop};
@@ -9,6 +9,9 @@ ghost use Rattle.vc_defs.specs.Quantiser.{AllBetween};
 ghost use Rattle.vc_fwht.specs.Passes.{stage, columns};
 ghost use Rattle.vc_lanes.specs.Rows.{column, ordered};
 
+mod engine;
+
+pub use engine::LaneEngine;
 use std::simd::prelude::*;
 use vc_fwht::{Transform, rows_of};
 

@@ -1,19 +1,19 @@
 -- The job of a worker stays as it is until its finish.
-use Rattle.std.proofs.Common.{ℕ, zero, suc, ◌≡◌, ◌<◌, ◌≤◌, ◌+◌, ◌==◌, eqb, ltb, nat_lt, Bool, true, false, not, cond, ◌&&◌, ◌||◌, is_none, is_some, Option, Some, None, List, [], ◌∷◌, ◌++◌, length, get_or, set, map, refl, sym, ap, ◌∙◌, subst, arith, get_or-set_same, get_or-set_other}
+use Rattle.std.proofs.Common.{ℕ, ◌≡◌, ◌<◌, eqb, ltb, Bool, true, false, cond, ◌&&◌, ◌||◌, is_none, Option, Some, None, List, [], ◌∷◌, length, get_or, set, refl, sym, ap, ◌∙◌, subst, arith, get_or-set_same, get_or-set_other}
 use Rattle.std.specs.Option.{option_map}
 use Rattle.std.proofs.lemmas.Bool.{eqb-true, eqb-false, ltb-true, lt-ltb, false≢true}
 use Rattle.vc_base.specs.declared.Call.{Call}
-use Rattle.vc_base.specs.Buffers.{Buffer, QueueState, buffer_count}
+use Rattle.vc_base.specs.Buffers.{buffer_count}
 use Rattle.vc_base.specs.Device.{DeviceEvent, call, claim, finish, shut}
-use Rattle.vc_model.specs.Coder.{Coder, CodecState}
+use Rattle.vc_model.specs.Coder.{Coder}
 use Rattle.vc_model.specs.Context.{Context, Slot, Running, PhaseState, run, owe, last, stopped, is_run}
 use Rattle.vc_model.specs.Answer.{answer}
 use Rattle.vc_model.specs.Runs.{is_claimable, JobData, job_data, source_of, after_claim, after_finish, ready_for_probe, ready_for_run}
-use Rattle.vc_model.specs.Devices.{DeviceState, DeviceStep, new_device, slot_of, job_of, with_slot, ignored, call_answered, claim_slot, claim_first, finish_of, finish_slot, finish_job, device_step, device_after, projection}
+use Rattle.vc_model.specs.Devices.{DeviceState, new_device, slot_of, job_of, with_slot, ignored, call_answered, claim_slot, claim_first, finish_of, finish_slot, finish_job, device_step, device_after, projection}
 use Rattle.vc_model.specs.JobList.{waits, ListIsExact}
 use Rattle.vc_model.specs.Seats.{WorkersAreApart}
 use Rattle.vc_model.specs.Sound.{IsSound, IsSoundSlot, HasItsBuffers}
-use Rattle.vc_model.specs.Standing.{job_in, job_in_slot, worker_job}
+use Rattle.vc_model.specs.Standing.{job_in}
 use Rattle.vc_model.proofs.Isolating.{isolated, is_there}
 use Rattle.vc_model.proofs.Fitting.{always_sound}
 use Rattle.vc_model.proofs.Listing.{exact_list, front_waits}

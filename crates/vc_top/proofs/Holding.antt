@@ -1,8 +1,8 @@
--- What the users hold fits the slots after each step.
-use Rattle.std.proofs.Common.{ℕ, zero, suc, ◌≡◌, ◌<◌, ◌≤◌, ◌+◌, ◌-◌, ◌==◌, eqb, ltb, nat_lt, nat_le, Bool, true, false, cond, ◌&&◌, not, Option, Some, None, List, [], ◌∷◌, ◌++◌, length, take, drop, find, filter, get_or, set, refl, sym, ap, ◌∙◌, subst, arith, get_or-set_same, get_or-set_other, length-append, length-drop}
+-- What is put into a held payload before a call, and what the call makes of it.
+use Rattle.std.proofs.Common.{ℕ, zero, suc, ◌≡◌, ◌<◌, ◌≤◌, ◌+◌, ◌==◌, eqb, nat_lt, nat_le, Bool, true, false, cond, not, Option, Some, None, List, [], ◌∷◌, ◌++◌, length, take, drop, filter, get_or, set, refl, sym, ap, ◌∙◌, subst, arith, get_or-set_same, get_or-set_other, length-append, length-drop}
 use Rattle.std.specs.Option.{option_map}
 use Rattle.std.proofs.Math.Seq.{take-append_seam}
-use Rattle.std.proofs.lemmas.Bool.{eqb-true, eqb-false, ltb-true, lt-ltb, false≢true}
+use Rattle.std.proofs.lemmas.Bool.{eqb-true, eqb-false, ltb-true, false≢true}
 use Rattle.vc_base.specs.declared.Side.{Side}
 use Rattle.vc_base.specs.declared.Side.TheVariants.{Out, Cap}
 use Rattle.vc_base.specs.declared.Stamp.{Stamp}
@@ -10,92 +10,18 @@ use Rattle.vc_base.specs.declared.Errno.TheVariants.{Inval}
 use Rattle.vc_base.specs.declared.Reply.TheVariants.{Done}
 use Rattle.vc_base.specs.declared.Call.{Call}
 use Rattle.vc_base.specs.declared.Call.TheVariants.{Open, Close, EnumFmt, GetFmt, TryFmt, SetFmt, ReqBufs, CreateBufs, QueryBuf, QBuf, DqBuf, StreamOn, StreamOff, Subscribe, Unsubscribe, DqEvent, DecCmd, EncCmd, GetCtrl, SetCtrl, Poll}
-use Rattle.vc_base.specs.Buffers.{Buffer, QueueState, buffers, buffer_count, new_queue, is_out, with_index, held_refusal, refuse_if, queue_held, queued_buffer, retire_after, lend_after, last_flag, zero_stamp}
-use Rattle.vc_model.specs.Coder.{Coder, the_coder}
-use Rattle.vc_model.specs.Context.{Context, Slot, Running, RunSort, copy, encode, decode, probe, Cause, drain, change, PhaseState, run, owe, last, stopped, is_run, is_drained, settle, settle_drain, settle_last, give_last, raise_end, sizeimage, with_queue}
-use Rattle.vc_model.specs.Answer.{Answer, refused, answered, unless, is_part_of_picture, qbuf_answer, context_answer, answer}
-use Rattle.vc_model.specs.Runs.{JobData, RunResult, copied, run_of, run_result, source_done, dest_done, fault_effect, run_effect, after_claim, claim_front, cap_after_claim, sort_of, running_of}
-use Rattle.vc_model.specs.Core.{brought_back, finished_context}
+use Rattle.vc_base.specs.Buffers.{Buffer, QueueState, buffers, buffer_count, new_queue, with_index, held_refusal, refuse_if, queue_held, queued_buffer}
+use Rattle.vc_model.specs.Context.{Context, Slot, sizeimage, with_queue}
+use Rattle.vc_model.specs.Answer.{Answer, refused, answered, unless, is_part_of_picture, context_answer, answer}
 use Rattle.vc_model.specs.CoreSound.{IsSoundInCore, IsSoundCoreSlot}
 use Rattle.vc_model.specs.Sound.{count_index, OnceEach}
-use Rattle.vc_model.specs.Standing.{without_data_of, without_job}
 use Rattle.vc_model.specs.Script.{HasUsedBytes}
 use Rattle.vc_model.proofs.Queues.{count_parts}
 use Rattle.vc_queue.specs.Holds.{HoldState, held_payload, with_payload, written_over, Fits}
 use Rattle.vc_queue.specs.Answers.{queued_bytes}
 use Rattle.vc_queue.specs.Cells.{bytes_or_none}
-use Rattle.vc_queue.proofs.Keeping.{fits_lent, fits_retired}
-use Rattle.vc_context.specs.Payloads.{FitsContext, HoldsNothing, FitsSlot, handed_over}
+use Rattle.vc_context.specs.Payloads.{FitsContext, FitsSlot, handed_over}
 use Rattle.vc_top.specs.Desks.{has_room, filled_at, filled}
-
--- Finishes and claims
-
-drain_fits : (c : Context) (hold : HoldState) (b : Bool) → FitsContext c hold → FitsContext (cond b (record c { phase = owe drain }) c) hold
-drain_fits c hold true f = record { out = f.out; cap = f.cap }
-drain_fits c hold false f = f
-
-given_fits : (c : Context) (hold : HoldState) (cause : Cause) (ready : List Buffer) → FitsContext c hold → FitsContext (give_last c cause ready) hold
-given_fits c hold cause [] f = f
-given_fits c hold drain (b ∷ rest) f =
-    record { out = f.out; cap = fits_retired (lend_after c.cap) 0 [] last_flag zero_stamp hold (fits_lent c.cap hold f.cap) }
-given_fits c hold change (b ∷ rest) f =
-    record { out = f.out; cap = fits_retired (lend_after c.cap) 0 [] last_flag zero_stamp hold (fits_lent c.cap hold f.cap) }
-
-last_fits : (c : Context) (hold : HoldState) (p : PhaseState) → FitsContext c hold → FitsContext (settle_last c p) hold
-last_fits c hold run f = f
-last_fits c hold (owe cause) f = given_fits c hold cause c.cap.ready f
-last_fits c hold (last cause) f = f
-last_fits c hold (stopped cause) f = f
-
-settle_fits : (c : Context) (hold : HoldState) → FitsContext c hold → FitsContext (settle c) hold
-unfolding settle
-settle_fits c hold f =
-    last_fits (settle_drain c) hold (settle_drain c).phase (drain_fits c hold _ f)
-
-source_fits : (c : Context) (j : JobData) (flags : ℕ) (hold : HoldState) → FitsContext c hold → FitsContext (source_done c j flags) hold
-source_fits c j flags hold f =
-    record { out = fits_retired c.out j.source.used j.source.bytes flags j.source.stamp hold f.out; cap = f.cap }
-
-dest_split : (c : Context) (b : Bool) (used : ℕ) (bytes : List ℕ) (flags more : ℕ) (stamp : Stamp) (hold : HoldState) → FitsContext c hold → FitsContext (cond b (raise_end drain (record c { cap = retire_after c.cap used bytes more stamp; phase = last drain })) (record c { cap = retire_after c.cap used bytes flags stamp })) hold
-dest_split c true used bytes flags more stamp hold f =
-    record { out = f.out; cap = fits_retired c.cap used bytes more stamp hold f.cap }
-dest_split c false used bytes flags more stamp hold f =
-    record { out = f.out; cap = fits_retired c.cap used bytes flags stamp hold f.cap }
-
-dest_fits : (c : Context) (ds : List Buffer) (used_up : Bool) (used : ℕ) (bytes : List ℕ) (flags : ℕ) (stamp : Stamp) (hold : HoldState) → FitsContext c hold → FitsContext (dest_done c ds used_up used bytes flags stamp) hold
-dest_fits c [] used_up used bytes flags stamp hold f = f
-dest_fits c (b ∷ rest) used_up used bytes flags stamp hold f =
-    dest_split c (used_up && is_drained c.out.ready c.mark) used bytes flags (flags + last_flag) stamp hold f
-
-run_fits : (c : Context) (j : JobData) (s : RunSort) (hold : HoldState) → s ≡ copy → FitsContext c hold → FitsContext (run_effect c j (run_of the_coder j s)) hold
-run_fits c j s hold e f =
-    subst (λ x. FitsContext (run_effect c j (run_of the_coder j x)) hold) (sym e) (dest_fits (source_done c j 0) j.dest true _ _ 0 j.source.stamp hold (source_fits c j 0 hold f))
-
-pub finished_fits : (c : Context) (j : JobData) (fault : Bool) (hold : HoldState) → j.sort ≡ copy → FitsContext c hold → FitsContext (finished_context c (brought_back the_coder j fault)) hold
-unfolding run_result
-finished_fits c j true hold e f =
-    settle_fits _ hold (dest_fits _ j.dest true 0 [] _ j.source.stamp hold (source_fits _ j _ hold (record { out = f.out; cap = f.cap })))
-finished_fits c j false hold e f =
-    settle_fits _ hold (run_fits (record c { codec = j.codec; running = None }) j j.sort hold e (record { out = f.out; cap = f.cap }))
-
-without_fits : (x : Context) (o : Option Running) (hold : HoldState) → FitsContext x hold → FitsContext (without_data_of x o) hold
-without_fits x None hold f = f
-without_fits x (Some r) hold f = record { out = f.out; cap = f.cap }
-
-cap_fits : (sort : RunSort) (q : QueueState) (hold : HoldState) → Fits q hold → Fits (cap_after_claim sort q) hold
-cap_fits copy q hold f = fits_lent q hold f
-cap_fits encode q hold f = fits_lent q hold f
-cap_fits decode q hold f = fits_lent q hold f
-cap_fits probe q hold f = f
-
-front_fits : (c : Context) (sort : RunSort) (ready : List Buffer) (hold : HoldState) → FitsContext c hold → FitsContext (claim_front c sort ready) hold
-front_fits c sort [] hold f = f
-front_fits c sort (b ∷ rest) hold f = record { out = fits_lent c.out hold f.out; cap = cap_fits sort c.cap hold f.cap }
-
-pub claimed_fits : (c : Context) (hold : HoldState) → FitsContext c hold → FitsContext (without_job (after_claim c)) hold
-unfolding after_claim
-claimed_fits c hold f =
-    without_fits (after_claim c) (after_claim c).running hold (front_fits c (sort_of c.kind c.geometry) c.out.ready hold f)
 
 -- Filled payloads
 
@@ -187,7 +113,7 @@ below n i count e h = split (nat_lt i count) refl e
     split true p q = ltb-true i count p
     split false p q = absurd (omega arith)
 
-held_below : (q : QueueState) (i : ℕ) (b : Buffer) → OnceEach q → buffer_count q ≤ 32 → with_index i q.held ≡ Some b → i < 32
+pub held_below : (q : QueueState) (i : ℕ) (b : Buffer) → OnceEach q → buffer_count q ≤ 32 → with_index i q.held ≡ Some b → i < 32
 held_below q i b once few e =
     let h = found_counts q.held i b e in
     let l = below (count_index (buffers q) i) i (buffer_count q) (once i) (omega (arith, h, count_parts q.held q.ready q.job q.done i)) in

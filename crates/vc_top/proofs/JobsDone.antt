@@ -1,5 +1,5 @@
 -- What a claim and a finish on a desk came to.
-use Rattle.std.proofs.Common.{ℕ, zero, suc, ◌≡◌, ◌<◌, ◌≤◌, ◌+◌, Bool, true, false, is_some, Option, Some, None, List, [], ◌∷◌, ◌++◌, length, get_or, set, refl, sym, ap, ◌∙◌, subst, arith}
+use Rattle.std.proofs.Common.{ℕ, zero, suc, ◌≡◌, ◌<◌, true, false, is_some, Option, Some, None, List, [], ◌∷◌, ◌++◌, length, get_or, set, refl, sym, ap, ◌∙◌, subst, arith}
 use Rattle.std.proofs.lemmas.Bool.{false≢true, true≢false}
 use Rattle.vc_base.specs.Device.{DeviceEvent, claim, finish}
 use Rattle.vc_model.specs.Coder.{the_coder}
@@ -8,6 +8,8 @@ use Rattle.vc_model.specs.Devices.{DeviceState, job_of}
 use Rattle.vc_model.specs.Core.{core_claim, core_finish, claimed_job, brought_back, word_of, BroughtBack}
 use Rattle.vc_model.specs.Standing.{CoreState}
 use Rattle.vc_queue.specs.Holds.{HoldState}
+use Rattle.vc_context.specs.Payloads.{FitsSlot}
+use Rattle.vc_model.specs.Devices.{slot_of}
 use Rattle.vc_core.specs.Jobs.{IsJobOf, IsClaim, HasJob, Brings, IsOfWorker, Tells, is_fault}
 use Rattle.vc_core.specs.declared.job.Job.{Job}
 use Rattle.vc_core.specs.declared.job.Finished.{Finished as Brought}
@@ -60,10 +62,10 @@ claims_of core job (k ∷ rest) None e f h = absurd h
 claims_of core job (k ∷ rest) (Some j) e f h =
     record { k = k; rest = rest; j = j; waits = e; claimed = f; is_job = h }
 
-pub took_done : (n : ℕ) (history : List DeviceEvent) (worker slot : ℕ) (core now : CoreState) (holds : List HoldState) (jobs : List (Option Job)) (job : Job) (desk : Desk) → desk.core ≡ now → desk.holds.items ≡ holds → desk.jobs.items ≡ set jobs worker (Some job) → IsAt n history core holds jobs → worker < 16 → is_some (get_or jobs worker None) ≡ false → IsClaim core.waiting (claimed_job core) (Some job) → now ≡ (core_claim core worker).device → length now.slots ≡ length core.slots → length now.workers ≡ length core.workers → ((k : ℕ) (j : JobData) → IsJobOf k j job → slot ≡ k) → ClaimDone n history worker desk true (claim_text slot)
-took_done n history worker slot core now holds jobs job desk e1 e2 e3 at l e is step size crew named =
+pub took_done : (n : ℕ) (history : List DeviceEvent) (worker slot : ℕ) (core now : CoreState) (holds : List HoldState) (jobs : List (Option Job)) (job : Job) (desk : Desk) → desk.core ≡ now → desk.holds.items ≡ holds → desk.jobs.items ≡ set jobs worker (Some job) → IsAt n history core holds jobs → worker < 16 → is_some (get_or jobs worker None) ≡ false → IsClaim core.waiting (claimed_job core) (Some job) → now ≡ (core_claim core worker).device → length now.slots ≡ length core.slots → ((i : ℕ) (hold : HoldState) → FitsSlot (slot_of core i) hold → FitsSlot (slot_of now i) hold) → length now.workers ≡ length core.workers → ((k : ℕ) (j : JobData) → IsJobOf k j job → slot ≡ k) → ClaimDone n history worker desk true (claim_text slot)
+took_done n history worker slot core now holds jobs job desk e1 e2 e3 at l e is step size keeps crew named =
     let claims = claims_of core job core.waiting (claimed_job core) refl refl is in
-    let made = claim_took n history core now holds jobs worker claims.k claims.rest claims.j job at l (free_worker n history core holds jobs worker at l e) claims.waits claims.claimed claims.is_job step size crew in
+    let made = claim_took n history core now holds jobs worker claims.k claims.rest claims.j job at l (free_worker n history core holds jobs worker at l e) claims.waits claims.claimed claims.is_job step size keeps crew in
     let at2 = subst (λ c. IsAt n (history ++ claim worker ∷ []) c desk.holds.items desk.jobs.items) (sym e1) (subst (λ h. IsAt n (history ++ claim worker ∷ []) now h desk.jobs.items) (sym e2) (subst (IsAt n (history ++ claim worker ∷ []) now holds) (sym e3) made.at)) in
     subst (λ s. ClaimDone n history worker desk true (claim_text s)) (sym (named claims.k claims.j claims.is_job)) (took claims.k made.rest made.was_free made.waited made.reply at2 made.has)
 
@@ -95,14 +97,14 @@ finish_of_worker n history worker core holds jobs job finished at l e run =
     let b = run h.k h.j h.is_job in
     is_of_worker core worker h.k (brought_back the_coder h.j (is_fault finished)) finished (finish_is_of n history core holds jobs worker h.k h.j finished (is_fault finished) at l h.has b) b
 
-pub ended_done : (n : ℕ) (history : List DeviceEvent) (worker slot runs runs' faults faults' : ℕ) (word : List ℕ) (core now : CoreState) (holds : List HoldState) (jobs : List (Option Job)) (job : Job) (finished : Brought) (desk : Desk) → desk.core ≡ now → desk.holds.items ≡ holds → desk.jobs.items ≡ set jobs worker None → IsAt n history core holds jobs → worker < 16 → get_or jobs worker None ≡ Some job → ((k : ℕ) (j : JobData) → IsJobOf k j job → Brings k (brought_back the_coder j (is_fault finished)) finished) → ((k : ℕ) (j : JobData) → IsJobOf k j job → slot ≡ k) → ((k : ℕ) (back : BroughtBack) → Brings k back finished → word ≡ word_of back) → ((k : ℕ) (back : BroughtBack) → HasJob core worker k back.job → Brings k back finished → now ≡ (core_finish core worker back).device) → length now.slots ≡ length core.slots → length now.workers ≡ length core.workers → Tells (is_fault finished) runs runs' faults faults' → FinishDone n history worker desk runs runs' faults faults' (is_fault finished) (finish_text slot word)
-ended_done n history worker slot runs runs' faults faults' word core now holds jobs job finished desk e1 e2 e3 at l e run named worded step size crew tells =
+pub ended_done : (n : ℕ) (history : List DeviceEvent) (worker slot runs runs' faults faults' : ℕ) (word : List ℕ) (core now : CoreState) (holds : List HoldState) (jobs : List (Option Job)) (job : Job) (finished : Brought) (desk : Desk) → desk.core ≡ now → desk.holds.items ≡ holds → desk.jobs.items ≡ set jobs worker None → IsAt n history core holds jobs → worker < 16 → get_or jobs worker None ≡ Some job → ((k : ℕ) (j : JobData) → IsJobOf k j job → Brings k (brought_back the_coder j (is_fault finished)) finished) → ((k : ℕ) (j : JobData) → IsJobOf k j job → slot ≡ k) → ((k : ℕ) (back : BroughtBack) → Brings k back finished → word ≡ word_of back) → ((k : ℕ) (back : BroughtBack) → HasJob core worker k back.job → Brings k back finished → now ≡ (core_finish core worker back).device) → length now.slots ≡ length core.slots → ((i : ℕ) (hold : HoldState) → FitsSlot (slot_of core i) hold → FitsSlot (slot_of now i) hold) → length now.workers ≡ length core.workers → Tells (is_fault finished) runs runs' faults faults' → FinishDone n history worker desk runs runs' faults faults' (is_fault finished) (finish_text slot word)
+ended_done n history worker slot runs runs' faults faults' word core now holds jobs job finished desk e1 e2 e3 at l e run named worded step size keeps crew tells =
     let fault = is_fault finished in
     let h = holds_of n history worker (get_or jobs worker None) job (at.kept worker l) e in
     let back = brought_back the_coder h.j fault in
     let b = run h.k h.j h.is_job in
     let has = finish_is_of n history core holds jobs worker h.k h.j finished fault at l h.has b in
-    let made = finish_made n history core now holds jobs worker h.k h.j job fault at l h.has h.is_job has (step h.k back has b) size crew in
+    let made = finish_made n history core now holds jobs worker h.k h.j fault at l h.has has (step h.k back has b) size keeps crew in
     let at2 = subst (λ c. IsAt n (history ++ finish worker fault ∷ []) c desk.holds.items desk.jobs.items) (sym e1) (subst (λ x. IsAt n (history ++ finish worker fault ∷ []) now x desk.jobs.items) (sym e2) (subst (IsAt n (history ++ finish worker fault ∷ []) now holds) (sym e3) made.at)) in
     let text : finish_text slot word ≡ finish_text h.k (finish_word the_coder h.j fault) = ap (λ s. finish_text s word) (named h.k h.j h.is_job) ∙ ap (finish_text h.k) (worded h.k back b ∙ same_word h.j fault) in
     subst (FinishDone n history worker desk runs runs' faults faults' fault) (sym text) (ended h.k h.k h.j fault made.had made.reply at2 tells)

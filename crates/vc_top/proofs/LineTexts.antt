@@ -1,18 +1,16 @@
 -- The text of a line, and the events that are read off it.
-use Rattle.std.proofs.Common.{ℕ, zero, suc, ◌≡◌, ◌+◌, ◌-◌, ◌≤◌, ◌<◌, ◌==◌, ltb, nat_lt, Bool, true, false, not, cond, is_none, Option, Some, None, List, [], ◌∷◌, ◌++◌, length, drop, decimal, refl, sym, ap, ◌∙◌, subst, arith, append_assoc, length-append}
+use Rattle.std.proofs.Common.{ℕ, ◌≡◌, ◌-◌, ◌≤◌, ltb, Bool, true, false, not, cond, is_none, Option, Some, None, List, [], ◌∷◌, ◌++◌, length, drop, decimal, refl, sym, ap, ◌∙◌, arith, append_assoc}
 use Rattle.std.specs.Prelude.{codes, bytes_eq}
 use Rattle.std.proofs.lemmas.List.{append-nil}
 use Rattle.std.proofs.lemmas.Bool.{false≢true}
 use Rattle.std.proofs.lemmas.Slice.Eq.{bytes_eq-Decides}
 use Rattle.vc_base.specs.declared.Call.{Call}
 use Rattle.vc_base.specs.declared.Call.TheVariants.{Open, Close, EnumFmt, GetFmt, TryFmt, SetFmt, ReqBufs, CreateBufs, QueryBuf, QBuf, DqBuf, StreamOn, StreamOff, Subscribe, Unsubscribe, DqEvent, DecCmd, EncCmd, GetCtrl, SetCtrl, Poll}
-use Rattle.vc_base.specs.declared.Kind.{Kind}
-use Rattle.vc_base.specs.declared.Side.{Side}
 use Rattle.vc_base.specs.declared.Errno.{Errno}
 use Rattle.vc_base.specs.declared.Errno.TheVariants.{NoMem}
 use Rattle.vc_base.specs.declared.Fourcc.{Fourcc}
 use Rattle.vc_base.specs.declared.Reply.{Reply}
-use Rattle.vc_base.specs.declared.Reply.TheVariants.{Done, Count, Created, Refused}
+use Rattle.vc_base.specs.declared.Reply.TheVariants.{Count, Created, Refused}
 use Rattle.vc_base.specs.Buffers.{is_empty, reqbufs_refusal, create_refusal}
 use Rattle.vc_base.specs.Device.{DeviceEvent, call, claim, finish}
 use Rattle.vc_defs.specs.Decoder.{DecodedResult, picture, damaged, changed, spent, step_outcome}
@@ -21,8 +19,8 @@ use Rattle.vc_model.specs.Context.{Context, Slot, queue_of}
 use Rattle.vc_model.specs.Answer.{Answer, answer, closed_answer, context_answer, unless, if_found, answered}
 use Rattle.vc_model.specs.Runs.{JobData, RunResult, copied, encoded, decoded, run_result, run_word, result_word, finish_word}
 use Rattle.vc_model.specs.Solo.{Answered, Claimed, Finished}
-use Rattle.vc_model.specs.Devices.{DeviceState, DeviceReply, DeviceEntry, Told, NoJob, slot_of, job_of, device_step, device_after, device_run, call_answered, ignored}
-use Rattle.vc_model.specs.Script.{Asked, AsksNothing, AsksCall, AsksClaim, AsksFinish, AsksRun, device_text, found_in, fault_in, line_events, line_text, text_without, run_events, first_lines}
+use Rattle.vc_model.specs.Devices.{DeviceState, Told, NoJob, slot_of, job_of, device_step, call_answered, ignored}
+use Rattle.vc_model.specs.Script.{AsksNothing, AsksCall, AsksClaim, AsksFinish, AsksRun, device_text, found_in, fault_in, run_events, first_lines}
 use Rattle.vc_script.specs.Texts.{reply_text, claim_text, no_claim_text, busy_text, finish_text, idle_text}
 use Rattle.vc_script.proofs.OneLine.{reply_is_line, claim_is_line, finish_is_line, want_told}
 use Rattle.vc_top.specs.Does.{LineDoes}

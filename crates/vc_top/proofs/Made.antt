@@ -1,20 +1,18 @@
 -- What a line came to, from what its steps came to.
-use Rattle.std.proofs.Common.{ℕ, zero, suc, ◌≡◌, ◌<◌, ◌≤◌, ◌+◌, ◌⊎◌, min, nat_le, nat_lt, Bool, true, false, cond, Option, Some, None, List, [], ◌∷◌, ◌++◌, length, take, decimal, get_or, set, refl, sym, ap, ◌∙◌, subst, arith, ⊎_elim, append_assoc, length-append}
+use Rattle.std.proofs.Common.{ℕ, zero, suc, ◌≡◌, ◌≤◌, nat_lt, Bool, true, false, cond, Option, Some, None, List, [], ◌∷◌, ◌++◌, length, take, decimal, get_or, refl, sym, ap, ◌∙◌, subst, arith, ⊎_elim, append_assoc}
 use Rattle.std.specs.Prelude.{codes, Result, Ok, Err, IfOk}
-use Rattle.std.specs.List.{filter}
 use Rattle.std.proofs.lemmas.List.{append-nil}
 use Rattle.hex.specs.Hex.{encode_lower}
-use Rattle.vc_base.specs.declared.Side.{Side}
 use Rattle.vc_base.specs.declared.Side.TheVariants.{Out, Cap}
 use Rattle.vc_base.specs.declared.Call.{Call}
 use Rattle.vc_base.specs.declared.Call.TheVariants.{Open, Close, EnumFmt, GetFmt, TryFmt, SetFmt, ReqBufs, CreateBufs, QueryBuf, QBuf, DqBuf, StreamOn, StreamOff, Subscribe, Unsubscribe, DqEvent, DecCmd, EncCmd, GetCtrl, SetCtrl, Poll}
 use Rattle.vc_base.specs.declared.Reply.{Reply}
 use Rattle.vc_base.specs.declared.Reply.TheVariants.{Done, Desc, Fmt, Count, Created, Info, Taken, Happened, Value, Ready, Refused, Blocked}
-use Rattle.vc_base.specs.Counts.{top_count, OneMore, Rose}
+use Rattle.vc_base.specs.Counts.{OneMore, Rose}
 use Rattle.vc_base.specs.Device.{DeviceEvent, call, claim, finish}
 use Rattle.vc_model.specs.Coder.{the_coder}
-use Rattle.vc_model.specs.Devices.{Told, new_device, job_of, device_step, device_after}
-use Rattle.vc_model.specs.Script.{Asked, AsksNothing, AsksCall, AsksClaim, AsksFinish, AsksRun, found_in}
+use Rattle.vc_model.specs.Devices.{Told, new_device, job_of, device_step}
+use Rattle.vc_model.specs.Script.{AsksNothing, AsksCall, AsksClaim, AsksFinish, AsksRun, found_in, HasUsedBytes as HasQueuedBytes}
 use Rattle.vc_model.specs.Standing.{CoreState, IsDevice}
 use Rattle.vc_model.proofs.Standing.{after-append}
 use Rattle.vc_queue.specs.Holds.{HoldState, held_payload}
@@ -28,7 +26,7 @@ use Rattle.vc_model.specs.Solo.{Claimed}
 use Rattle.vc_context.specs.Payloads.{empty_hold}
 use Rattle.std.proofs.lemmas.Bool.{true≢false}
 use Rattle.vc_top.specs.declared.desk.Desk.{Desk}
-use Rattle.vc_top.specs.Desks.{after, IsKeptJob, IsAt, IsDesk, IsTaken, front_is, taken_payload, has_bytes, CallDone, ClaimDone, was_busy, was_empty, took, FinishDone, was_idle, ended, ClaimsWith, FinishesWith, IsSomeDesk}
+use Rattle.vc_top.specs.Desks.{after, IsKeptJob, IsAt, IsDesk, IsTaken, front_is, taken_payload, CallDone, ClaimDone, was_busy, was_empty, took, FinishDone, was_idle, ended, ClaimsWith, FinishesWith, IsSomeDesk}
 use Rattle.vc_top.specs.Does.{LineDoes}
 use Rattle.vc_top.specs.Carries.{finishes, RoseBy, IsCounted, LineMade}
 use Rattle.vc_top.proofs.LineTexts.{nothing_does, call_read, call_does, claim_busy, claim_none, claim_took, finish_idles, finish_ends, run_busy, run_none, run_ends}
@@ -110,100 +108,98 @@ front_same : (used : ℕ) (xs ys : List ℕ) → take used xs ≡ ys → payload
 front_same used xs ys e =
     ap (λ t. cond (nat_lt 0 used) (encode_lower t) (codes "-")) (sym (take_twice used xs) ∙ ap (take used) e)
 
-none_left : (n : ℕ) → nat_le n 0 ≡ true → n ≡ 0
-none_left n e = grind arith
-
-le_of : (a b : ℕ) → nat_le a b ≡ true → a ≤ b
-le_of a b e = grind arith
-
 -- the payload in the hold is shown as the bytes that the device handed out
-payload_shown : (used : ℕ) (handed : List ℕ) (p : Option (List ℕ)) → front_is used handed p → nat_le used (length (bytes_or_none p)) ≡ true → payload_text true used (bytes_or_none p) ≡ payload_text true used handed
-payload_shown used handed None f l =
-    subst (λ n. payload_text true n [] ≡ payload_text true n handed) (sym (none_left used l)) refl
-payload_shown used handed (Some p) f l = front_same used p handed f
+payload_shown : (used : ℕ) (handed : List ℕ) (p : Option (List ℕ)) → front_is used handed p → payload_text true used (bytes_or_none p) ≡ payload_text true used handed
+payload_shown used handed None f = absurd f
+payload_shown used handed (Some p) f = front_same used p handed f.1
 
-words_shown : (request : Call) (reply : Reply) (handed : List ℕ) (hold : HoldState) → IsTaken request reply handed hold → has_bytes request reply (taken_payload request reply hold) ≡ true → answer_words request reply (taken_payload request reply hold) ≡ answer_words request reply handed
+payload_room : (used : ℕ) (handed : List ℕ) (p : Option (List ℕ)) → front_is used handed p → used ≤ length (bytes_or_none p)
+payload_room used handed None f = absurd f
+payload_room used handed (Some p) f = f.0
+
+words_shown : (request : Call) (reply : Reply) (handed : List ℕ) (hold : HoldState) → IsTaken request reply handed hold → answer_words request reply (taken_payload request reply hold) ≡ answer_words request reply handed
 unfolding taken_words
-words_shown (DqBuf Cap block) Done handed hold f l = refl
-words_shown (DqBuf Cap block) (Desc fourcc) handed hold f l = refl
-words_shown (DqBuf Cap block) (Fmt format) handed hold f l = refl
-words_shown (DqBuf Cap block) (Count count) handed hold f l = refl
-words_shown (DqBuf Cap block) (Created index count) handed hold f l = refl
-words_shown (DqBuf Cap block) (Info index size flags) handed hold f l = refl
-words_shown (DqBuf Cap block) (Taken index used flags seq stamp) handed hold f l =
-    ap (λ t. codes "ok" ∷ decimal index ∷ decimal used ∷ flag_text flags ∷ decimal seq ∷ decimal stamp.0 ∷ t ∷ []) (payload_shown used handed (held_payload hold Cap index) f l)
-words_shown (DqBuf Cap block) (Happened event seq changes pending) handed hold f l = refl
-words_shown (DqBuf Cap block) (Value value) handed hold f l = refl
-words_shown (DqBuf Cap block) (Ready read write urgent) handed hold f l = refl
-words_shown (DqBuf Cap block) (Refused errno) handed hold f l = refl
-words_shown (DqBuf Cap block) Blocked handed hold f l = refl
-words_shown (Open kind) reply handed hold f l = words_same (Open kind) reply [] handed refl
-words_shown Close reply handed hold f l = words_same Close reply [] handed refl
-words_shown (EnumFmt side index) reply handed hold f l = words_same (EnumFmt side index) reply [] handed refl
-words_shown (GetFmt side) reply handed hold f l = words_same (GetFmt side) reply [] handed refl
-words_shown (TryFmt side want) reply handed hold f l = words_same (TryFmt side want) reply [] handed refl
-words_shown (SetFmt side want) reply handed hold f l = words_same (SetFmt side want) reply [] handed refl
-words_shown (ReqBufs side count) reply handed hold f l = words_same (ReqBufs side count) reply [] handed refl
-words_shown (CreateBufs side count size) reply handed hold f l = words_same (CreateBufs side count size) reply [] handed refl
-words_shown (QueryBuf side index) reply handed hold f l = words_same (QueryBuf side index) reply [] handed refl
-words_shown (QBuf side index used stamp) reply handed hold f l = words_same (QBuf side index used stamp) reply [] handed refl
-words_shown (DqBuf Out block) reply handed hold f l = words_same (DqBuf Out block) reply [] handed refl
-words_shown (StreamOn side) reply handed hold f l = words_same (StreamOn side) reply [] handed refl
-words_shown (StreamOff side) reply handed hold f l = words_same (StreamOff side) reply [] handed refl
-words_shown (Subscribe event) reply handed hold f l = words_same (Subscribe event) reply [] handed refl
-words_shown (Unsubscribe event) reply handed hold f l = words_same (Unsubscribe event) reply [] handed refl
-words_shown (DqEvent block) reply handed hold f l = words_same (DqEvent block) reply [] handed refl
-words_shown (DecCmd cmd) reply handed hold f l = words_same (DecCmd cmd) reply [] handed refl
-words_shown (EncCmd cmd) reply handed hold f l = words_same (EncCmd cmd) reply [] handed refl
-words_shown (GetCtrl id) reply handed hold f l = words_same (GetCtrl id) reply [] handed refl
-words_shown (SetCtrl id value) reply handed hold f l = words_same (SetCtrl id value) reply [] handed refl
-words_shown Poll reply handed hold f l = words_same Poll reply [] handed refl
+words_shown (DqBuf Cap block) Done handed hold f = refl
+words_shown (DqBuf Cap block) (Desc fourcc) handed hold f = refl
+words_shown (DqBuf Cap block) (Fmt format) handed hold f = refl
+words_shown (DqBuf Cap block) (Count count) handed hold f = refl
+words_shown (DqBuf Cap block) (Created index count) handed hold f = refl
+words_shown (DqBuf Cap block) (Info index size flags) handed hold f = refl
+words_shown (DqBuf Cap block) (Taken index used flags seq stamp) handed hold f =
+    ap (λ t. codes "ok" ∷ decimal index ∷ decimal used ∷ flag_text flags ∷ decimal seq ∷ decimal stamp.0 ∷ t ∷ []) (payload_shown used handed (held_payload hold Cap index) f)
+words_shown (DqBuf Cap block) (Happened event seq changes pending) handed hold f = refl
+words_shown (DqBuf Cap block) (Value value) handed hold f = refl
+words_shown (DqBuf Cap block) (Ready read write urgent) handed hold f = refl
+words_shown (DqBuf Cap block) (Refused errno) handed hold f = refl
+words_shown (DqBuf Cap block) Blocked handed hold f = refl
+words_shown (Open kind) reply handed hold f = words_same (Open kind) reply [] handed refl
+words_shown Close reply handed hold f = words_same Close reply [] handed refl
+words_shown (EnumFmt side index) reply handed hold f = words_same (EnumFmt side index) reply [] handed refl
+words_shown (GetFmt side) reply handed hold f = words_same (GetFmt side) reply [] handed refl
+words_shown (TryFmt side want) reply handed hold f = words_same (TryFmt side want) reply [] handed refl
+words_shown (SetFmt side want) reply handed hold f = words_same (SetFmt side want) reply [] handed refl
+words_shown (ReqBufs side count) reply handed hold f = words_same (ReqBufs side count) reply [] handed refl
+words_shown (CreateBufs side count size) reply handed hold f = words_same (CreateBufs side count size) reply [] handed refl
+words_shown (QueryBuf side index) reply handed hold f = words_same (QueryBuf side index) reply [] handed refl
+words_shown (QBuf side index used stamp) reply handed hold f = words_same (QBuf side index used stamp) reply [] handed refl
+words_shown (DqBuf Out block) reply handed hold f = words_same (DqBuf Out block) reply [] handed refl
+words_shown (StreamOn side) reply handed hold f = words_same (StreamOn side) reply [] handed refl
+words_shown (StreamOff side) reply handed hold f = words_same (StreamOff side) reply [] handed refl
+words_shown (Subscribe event) reply handed hold f = words_same (Subscribe event) reply [] handed refl
+words_shown (Unsubscribe event) reply handed hold f = words_same (Unsubscribe event) reply [] handed refl
+words_shown (DqEvent block) reply handed hold f = words_same (DqEvent block) reply [] handed refl
+words_shown (DecCmd cmd) reply handed hold f = words_same (DecCmd cmd) reply [] handed refl
+words_shown (EncCmd cmd) reply handed hold f = words_same (EncCmd cmd) reply [] handed refl
+words_shown (GetCtrl id) reply handed hold f = words_same (GetCtrl id) reply [] handed refl
+words_shown (SetCtrl id value) reply handed hold f = words_same (SetCtrl id value) reply [] handed refl
+words_shown Poll reply handed hold f = words_same Poll reply [] handed refl
 
-pub text_shown : (slot : ℕ) (request : Call) (reply : Reply) (handed : List ℕ) (hold : HoldState) → IsTaken request reply handed hold → has_bytes request reply (taken_payload request reply hold) ≡ true → reply_text slot request reply (taken_payload request reply hold) ≡ reply_text slot request reply handed
+pub text_shown : (slot : ℕ) (request : Call) (reply : Reply) (handed : List ℕ) (hold : HoldState) → IsTaken request reply handed hold → reply_text slot request reply (taken_payload request reply hold) ≡ reply_text slot request reply handed
 unfolding reply_text
-text_shown slot request reply handed hold f l =
-    ap (λ ws. decimal slot ++ spaced (verb_name (call_verb request) ∷ ws) ++ (10 ∷ [])) (words_shown request reply handed hold f l)
+text_shown slot request reply handed hold f =
+    ap (λ ws. decimal slot ++ spaced (verb_name (call_verb request) ∷ ws) ++ (10 ∷ [])) (words_shown request reply handed hold f)
 
-pub bytes_used : (request : Call) (reply : Reply) (hold : HoldState) → has_bytes request reply (taken_payload request reply hold) ≡ true → HasUsedBytes request reply (taken_payload request reply hold)
-bytes_used (DqBuf Cap block) Done hold l = tt
-bytes_used (DqBuf Cap block) (Desc fourcc) hold l = tt
-bytes_used (DqBuf Cap block) (Fmt f) hold l = tt
-bytes_used (DqBuf Cap block) (Count count) hold l = tt
-bytes_used (DqBuf Cap block) (Created index count) hold l = tt
-bytes_used (DqBuf Cap block) (Info index size flags) hold l = tt
-bytes_used (DqBuf Cap block) (Taken index used flags seq stamp) hold l = le_of used (length (bytes_or_none (held_payload hold Cap index))) l
-bytes_used (DqBuf Cap block) (Happened event seq changes pending) hold l = tt
-bytes_used (DqBuf Cap block) (Value value) hold l = tt
-bytes_used (DqBuf Cap block) (Ready read write urgent) hold l = tt
-bytes_used (DqBuf Cap block) (Refused errno) hold l = tt
-bytes_used (DqBuf Cap block) Blocked hold l = tt
-bytes_used (Open kind) reply hold l = tt
-bytes_used Close reply hold l = tt
-bytes_used (EnumFmt side index) reply hold l = tt
-bytes_used (GetFmt side) reply hold l = tt
-bytes_used (TryFmt side want) reply hold l = tt
-bytes_used (SetFmt side want) reply hold l = tt
-bytes_used (ReqBufs side count) reply hold l = tt
-bytes_used (CreateBufs side count size) reply hold l = tt
-bytes_used (QueryBuf side index) reply hold l = tt
-bytes_used (QBuf side index used stamp) reply hold l = tt
-bytes_used (DqBuf Out block) reply hold l = tt
-bytes_used (StreamOn side) reply hold l = tt
-bytes_used (StreamOff side) reply hold l = tt
-bytes_used (Subscribe event) reply hold l = tt
-bytes_used (Unsubscribe event) reply hold l = tt
-bytes_used (DqEvent block) reply hold l = tt
-bytes_used (DecCmd cmd) reply hold l = tt
-bytes_used (EncCmd cmd) reply hold l = tt
-bytes_used (GetCtrl id) reply hold l = tt
-bytes_used (SetCtrl id value) reply hold l = tt
-bytes_used Poll reply hold l = tt
+pub bytes_used : (request : Call) (reply : Reply) (bytes : List ℕ) (hold : HoldState) → (HasQueuedBytes request bytes → (handed : List ℕ) × IsTaken request reply handed hold) → HasUsedBytes request reply (taken_payload request reply hold)
+bytes_used (DqBuf Cap block) Done bytes hold f = tt
+bytes_used (DqBuf Cap block) (Desc fourcc) bytes hold f = tt
+bytes_used (DqBuf Cap block) (Fmt format) bytes hold f = tt
+bytes_used (DqBuf Cap block) (Count count) bytes hold f = tt
+bytes_used (DqBuf Cap block) (Created index count) bytes hold f = tt
+bytes_used (DqBuf Cap block) (Info index size flags) bytes hold f = tt
+bytes_used (DqBuf Cap block) (Taken index used flags seq stamp) bytes hold f =
+    let t = f tt in payload_room used t.0 (held_payload hold Cap index) t.1
+bytes_used (DqBuf Cap block) (Happened event seq changes pending) bytes hold f = tt
+bytes_used (DqBuf Cap block) (Value value) bytes hold f = tt
+bytes_used (DqBuf Cap block) (Ready read write urgent) bytes hold f = tt
+bytes_used (DqBuf Cap block) (Refused errno) bytes hold f = tt
+bytes_used (DqBuf Cap block) Blocked bytes hold f = tt
+bytes_used (Open kind) reply bytes hold f = tt
+bytes_used Close reply bytes hold f = tt
+bytes_used (EnumFmt side index) reply bytes hold f = tt
+bytes_used (GetFmt side) reply bytes hold f = tt
+bytes_used (TryFmt side want) reply bytes hold f = tt
+bytes_used (SetFmt side want) reply bytes hold f = tt
+bytes_used (ReqBufs side count) reply bytes hold f = tt
+bytes_used (CreateBufs side count size) reply bytes hold f = tt
+bytes_used (QueryBuf side index) reply bytes hold f = tt
+bytes_used (QBuf side index used stamp) reply bytes hold f = tt
+bytes_used (DqBuf Out block) reply bytes hold f = tt
+bytes_used (StreamOn side) reply bytes hold f = tt
+bytes_used (StreamOff side) reply bytes hold f = tt
+bytes_used (Subscribe event) reply bytes hold f = tt
+bytes_used (Unsubscribe event) reply bytes hold f = tt
+bytes_used (DqEvent block) reply bytes hold f = tt
+bytes_used (DecCmd cmd) reply bytes hold f = tt
+bytes_used (EncCmd cmd) reply bytes hold f = tt
+bytes_used (GetCtrl id) reply bytes hold f = tt
+bytes_used (SetCtrl id value) reply bytes hold f = tt
+bytes_used Poll reply bytes hold f = tt
 
 -- Lines
 
-pub call_line : (n : ℕ) (history : List DeviceEvent) (slot : ℕ) (request : Call) (bytes : List ℕ) (told : Reply) (desk : Desk) (text : List ℕ) (runs faults : ℕ) → CallDone n history slot request bytes told desk → has_bytes request told (taken_payload request told (get_or desk.holds.items slot empty_hold)) ≡ true → text ≡ reply_text slot request told (taken_payload request told (get_or desk.holds.items slot empty_hold)) → LineMade n history (AsksCall slot request bytes) text false runs runs faults faults desk
-call_line n history slot request bytes told desk text runs faults done has is =
-    let shown : text ≡ reply_text slot request told done.handed = is ∙ text_shown slot request told done.handed (get_or desk.holds.items slot empty_hold) done.taken has in
+pub call_line : (n : ℕ) (history : List DeviceEvent) (slot : ℕ) (request : Call) (bytes : List ℕ) (told : Reply) (desk : Desk) (text : List ℕ) (runs faults : ℕ) → CallDone n history slot request bytes told desk → text ≡ reply_text slot request told (taken_payload request told (get_or desk.holds.items slot empty_hold)) → LineMade n history (AsksCall slot request bytes) text false runs runs faults faults desk
+call_line n history slot request bytes told desk text runs faults done is =
+    let shown : text ≡ reply_text slot request told done.handed = is ∙ text_shown slot request told done.handed (get_or desk.holds.items slot empty_hold) done.taken in
     let plain = reply_text slot request told done.handed in
     let found = found_in reply_text slot request plain in
     let d = after n history in

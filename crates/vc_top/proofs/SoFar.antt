@@ -1,11 +1,11 @@
 -- Lines carried out one after another.
-use Rattle.std.proofs.Common.{◌≡◌, ℕ, zero, suc, ◌+◌, ◌-◌, ◌^◌, ◌≤◌, ◌<◌, ◌*◌, min, Bool, true, false, cond, ◌||◌, List, [], ◌∷◌, ◌++◌, length, take, drop, Option, Some, None, Result, Err, IsErrOf, refl, sym, ◌∙◌, ap, subst, arith, add-one, append_assoc, length-append}
+use Rattle.std.proofs.Common.{◌≡◌, ℕ, zero, suc, ◌+◌, ◌≤◌, ◌<◌, Bool, true, false, cond, ◌||◌, List, [], ◌∷◌, ◌++◌, length, take, drop, Option, Some, None, Result, Err, IsErrOf, refl, sym, ◌∙◌, ap, subst, arith, add-one, append_assoc, length-append}
 use Rattle.std.specs.List.{filter}
 use Rattle.std.proofs.lemmas.List.{append-nil, take_all, take-append-drop}
 use Rattle.std.proofs.Math.Seq.{take-append-add}
 use Rattle.std.specs.Io.KnownBytes.{Appends}
 use Rattle.std.specs.Str.Lines.{lines}
-use Rattle.vc_base.specs.Counts.{top_count, Rose}
+use Rattle.vc_base.specs.Counts.{Rose}
 use Rattle.vc_base.specs.Device.{DeviceEvent}
 use Rattle.vc_io.specs.Written.{AppendsFront}
 use Rattle.vc_model.specs.Devices.{new_device}
@@ -13,13 +13,12 @@ use Rattle.vc_model.specs.Script.{Asked}
 use Rattle.vc_top.specs.declared.desk.Desk.{Desk}
 use Rattle.vc_top.specs.declared.script.LineStop.{LineStop}
 use Rattle.vc_top.specs.declared.script.LineStop.TheVariants as stops
-use Rattle.vc_top.specs.declared.status.Status.{Status}
-use Rattle.vc_top.specs.declared.status.Status.TheVariants.{Fine, WriteFault, EngineFault}
+use Rattle.vc_top.specs.declared.status.Status.TheVariants.{WriteFault}
 use Rattle.vc_top.specs.Asking.{asks_line, asks_lines, with_rest}
-use Rattle.vc_top.specs.Carries.{finishes, is_finish, RoseBy, IsCounted, LineMade}
+use Rattle.vc_top.specs.Carries.{finishes, is_finish, RoseBy, IsCounted}
 use Rattle.vc_top.specs.Desks.{IsDesk}
-use Rattle.vc_top.specs.Ends.{EngineCounts, Carries, events_in, AllWritten, FrontWritten, StopsAtBad, LinesEnd}
-use Rattle.vc_top.specs.Steps.{LineDone, LineCut, LineStopped, status_of, status_at_end}
+use Rattle.vc_top.specs.Ends.{EngineCounts, Carries, AllWritten, FrontWritten, LinesEnd}
+use Rattle.vc_top.specs.Steps.{LineDone, LineStopped, status_of, status_at_end}
 use Rattle.vc_top.proofs.Carrying.{Carried, carried_more, carried_prints, carried_events}
 
 abbrev counts : ℕ → ℕ → EngineCounts

@@ -1,27 +1,27 @@
 -- Steps of a desk.
-use Rattle.std.proofs.Common.{ℕ, zero, suc, ◌≡◌, ◌<◌, ◌≤◌, ◌+◌, ◌==◌, eqb, ltb, nat_lt, Bool, true, false, not, cond, is_none, is_some, Option, Some, None, List, [], ◌∷◌, ◌++◌, length, take, drop, map, get_or, set, replicate, refl, sym, ap, ◌∙◌, subst, arith, get_or-set_same, get_or-set_other, length-set}
-use Rattle.std.proofs.lemmas.Bool.{eqb-true, eqb-false, lt-ltb, false≢true}
+use Rattle.std.proofs.Common.{ℕ, zero, suc, ◌≡◌, ◌<◌, ◌≤◌, eqb, nat_lt, Bool, true, false, cond, is_none, is_some, Option, Some, None, List, [], ◌∷◌, ◌++◌, length, take, get_or, set, replicate, refl, sym, ap, ◌∙◌, subst, arith, get_or-set_same, get_or-set_other, length-set}
+use Rattle.std.proofs.lemmas.Bool.{eqb-true, eqb-false, lt-ltb}
 use Rattle.std.proofs.lemmas.List.{length-replicate}
 use Rattle.vc_base.specs.declared.Call.{Call}
 use Rattle.vc_base.specs.declared.Reply.{Reply}
 use Rattle.vc_base.specs.declared.Reply.TheVariants.{Refused}
 use Rattle.vc_base.specs.declared.Errno.TheVariants.{NoMem}
 use Rattle.vc_base.specs.Device.{DeviceEvent, call, claim, finish}
-use Rattle.vc_model.specs.Coder.{Coder, CodecState, the_coder}
-use Rattle.vc_model.specs.Context.{Context, Slot, Running, RunSort, copy, encode, decode, probe}
-use Rattle.vc_model.specs.Answer.{Answer, answer}
-use Rattle.vc_model.specs.Runs.{JobData, after_claim, finish_word, run_word, run_result}
+use Rattle.vc_model.specs.Coder.{the_coder}
+use Rattle.vc_model.specs.Context.{Context, Slot, Running}
+use Rattle.vc_model.specs.Answer.{answer}
+use Rattle.vc_model.specs.Runs.{JobData, finish_word}
 use Rattle.vc_model.specs.Solo.{Answered, Claimed, Finished}
-use Rattle.vc_model.specs.Devices.{DeviceState, DeviceReply, Told, NoJob, Empty, DeviceStep, new_device, slot_of, job_of, with_slot, ignored, call_answered, device_step, device_after}
-use Rattle.vc_model.specs.Standing.{CoreState, core_slot, core_of, AreFree, IsDevice, Stands, without_job, job_in, job_in_slot, worker_job}
-use Rattle.vc_model.specs.Core.{new_core, core_call, core_claim, core_claim_first, core_claim_slot, claimed_job, claimed_in, claimed_first, BroughtBack, core_finish, core_finish_of, core_finish_slot, core_finish_job, finished_context, word_of, brought_back, StandsFor, ClaimStands, IsGiven}
+use Rattle.vc_model.specs.Devices.{DeviceState, DeviceReply, Told, NoJob, DeviceStep, new_device, slot_of, job_of, with_slot, ignored, call_answered, device_step}
+use Rattle.vc_model.specs.Standing.{CoreState, IsDevice, Stands, job_in, job_in_slot, worker_job}
+use Rattle.vc_model.specs.Core.{new_core, core_call, core_claim, core_claim_first, core_claim_slot, claimed_job, claimed_in, claimed_first, BroughtBack, core_finish, core_finish_of, core_finish_slot, core_finish_job, word_of, brought_back, IsGiven}
 use Rattle.vc_model.specs.Script.{HasUsedBytes}
 use Rattle.vc_model.proofs.Standing.{after-append, new_core_stands, calls_stand, claims_stand, finishes_stand}
 use Rattle.vc_model.proofs.CoreSound.{cores_are_sound}
-use Rattle.vc_model.proofs.Isolating.{is_there, closed_at_first}
+use Rattle.vc_model.proofs.Isolating.{closed_at_first}
 use Rattle.vc_queue.specs.Holds.{HoldState}
-use Rattle.vc_context.specs.Payloads.{FitsContext, FitsSlot, empty_hold, handed_over}
-use Rattle.vc_core.specs.Jobs.{IsJobOf, IsSort, Brings, HasJob, IsOfWorker, RunsInSlot, RunsIn, IsClaim}
+use Rattle.vc_context.specs.Payloads.{FitsSlot, empty_hold, handed_over}
+use Rattle.vc_core.specs.Jobs.{IsJobOf, Brings, HasJob, IsOfWorker, RunsInSlot}
 use Rattle.vc_core.specs.Steps.{IsCall}
 use Rattle.vc_core.specs.declared.job.Job.{Job}
 use Rattle.vc_core.specs.declared.job.Finished.{Finished as Brought}
@@ -29,7 +29,7 @@ use Rattle.vc_core.proofs.Slots.{nothing_held}
 use Rattle.vc_core.proofs.There.{jobs_are_there}
 use Rattle.vc_top.specs.Desks.{HasData, after, IsKeptJob, IsAt, filled}
 use Rattle.vc_top.proofs.DeviceJobs.{IsOther, data_stays, worker_stays}
-use Rattle.vc_top.proofs.Holding.{filled_fits, answer_same, finished_fits, claimed_fits}
+use Rattle.vc_top.proofs.Holding.{answer_same}
 
 -- The first desk
 
@@ -164,25 +164,11 @@ first_claim core worker l e =
 record Fronts (core : CoreState) (worker k : ℕ) (step : DeviceStep) (j : JobData) : Type 0 where
   pub reply : step.reply ≡ Told k Claimed
   pub workers : step.device.workers ≡ set core.workers worker (Some k)
-  pub fit : (i : ℕ) (hold : HoldState) → FitsSlot (slot_of core i) hold → FitsSlot (slot_of step.device i) hold
-
-slot_fit : (slots : List Slot) (k i : ℕ) (c x : Context) (hold : HoldState) → get_or slots k None ≡ Some c → (FitsContext c hold → FitsContext x hold) → FitsSlot (get_or slots i None) hold → (b : Bool) → eqb k i ≡ b → FitsSlot (get_or (set slots k (Some x)) i None) hold
-slot_fit slots k i c x hold e own f true q =
-    let z = eqb-true k i q in
-    let g : FitsContext c hold = subst (λ s. FitsSlot s hold) (ap (λ y. get_or slots y None) (sym z) ∙ e) f in
-    subst (λ y. FitsSlot (get_or (set slots k (Some x)) y None) hold) z (subst (λ s. FitsSlot s hold) (sym (get_or-set_same slots k (Some x) None (is_there slots k c e))) (own g))
-slot_fit slots k i c x hold e own f false q =
-    subst (λ s. FitsSlot s hold) (sym (get_or-set_other slots k i (Some x) None (λ (z : i ≡ k). eqb-false k i q (sym z)))) f
 
 front_is : (core : CoreState) (worker k : ℕ) (rest : List ℕ) (j : JobData) (s : Slot) → slot_of core k ≡ s → claimed_in s ≡ Some j → Fronts core worker k (core_claim_slot (record core { waiting = rest }) worker k s) j
 unfolding with_slot
 front_is core worker k rest j None e f = absurd (cc)
-front_is core worker k rest j (Some c) e f =
-    record {
-      reply = refl;
-      workers = refl;
-      fit = λ i hold g. slot_fit core.slots k i c (without_job (after_claim c)) hold e (claimed_fits c hold) g (eqb k i) refl;
-    }
+front_is core worker k rest j (Some c) e f = record { reply = refl; workers = refl }
 
 given_job : (after_claim : DeviceState) (worker k : ℕ) (j : JobData) (r : DeviceReply) (o : Option JobData) → r ≡ Told k Claimed → o ≡ Some j → IsGiven worker after_claim o r → worker_job after_claim worker ≡ Some j
 given_job d worker k j r o e f g = subst (λ x. IsGiven worker d o x) e g ∙ f
@@ -194,8 +180,8 @@ kept_job jobs worker i o P l own others false e =
     let differs = λ (z : i ≡ worker). eqb-false worker i e (sym z) in
     subst (P i) (sym (get_or-set_other jobs worker i o None differs)) (others differs)
 
-pub claim_took : (n : ℕ) (history : List DeviceEvent) (core now : CoreState) (holds : List HoldState) (jobs : List (Option Job)) (worker k : ℕ) (rest : List ℕ) (j : JobData) (job : Job) → IsAt n history core holds jobs → worker < 16 → job_of core worker ≡ None → core.waiting ≡ k ∷ rest → claimed_job core ≡ Some j → IsJobOf k j job → now ≡ (core_claim core worker).device → length now.slots ≡ length core.slots → length now.workers ≡ length core.workers → ClaimTook n history worker k now holds jobs job
-claim_took n history core now holds jobs worker k rest j job at l free waits given is step size crew =
+pub claim_took : (n : ℕ) (history : List DeviceEvent) (core now : CoreState) (holds : List HoldState) (jobs : List (Option Job)) (worker k : ℕ) (rest : List ℕ) (j : JobData) (job : Job) → IsAt n history core holds jobs → worker < 16 → job_of core worker ≡ None → core.waiting ≡ k ∷ rest → claimed_job core ≡ Some j → IsJobOf k j job → now ≡ (core_claim core worker).device → length now.slots ≡ length core.slots → ((i : ℕ) (hold : HoldState) → FitsSlot (slot_of core i) hold → FitsSlot (slot_of now i) hold) → length now.workers ≡ length core.workers → ClaimTook n history worker k now holds jobs job
+claim_took n history core now holds jobs worker k rest j job at l free waits given is step size keeps crew =
     let l2 : worker < length core.workers = omega (arith, at.workers) in
     let first = first_claim core worker l2 free ∙ ap (core_claim_first core worker) waits in
     let fronts = front_is core worker k rest j (slot_of core k) refl (sym (ap (claimed_first core) waits) ∙ given) in
@@ -220,7 +206,7 @@ claim_took n history core now holds jobs worker k rest j job at l free waits giv
         slots = size ∙ at.slots;
         workers = crew ∙ at.workers;
         users = at.users;
-        fit = λ i m. subst (λ c. FitsSlot (slot_of c i) (get_or holds i empty_hold)) (sym device) (fronts.fit i (get_or holds i empty_hold) (at.fit i m));
+        fit = λ i m. keeps i (get_or holds i empty_hold) (at.fit i m);
         kept_jobs = length-set jobs worker (Some job) ∙ at.kept_jobs;
         kept = λ i m. kept_job jobs worker i (Some job) (IsKeptJob (after n (history ++ claim worker ∷ []))) (omega (arith, at.kept_jobs)) (k, j, record { of_slot = has; data_there = in_slot }, is) (λ differs. kept_next n history i (claim worker) (get_or jobs i None) differs (at.kept i m)) (eqb worker i) refl;
       };
@@ -258,12 +244,6 @@ claim_empty n history core now holds jobs worker at l free none waits step =
 
 -- Finishes
 
-copy_sort : (r : RunSort) (c : CodecState) (job : Job) → IsSort r c job.work.sort → r ≡ copy
-copy_sort copy c job h = refl
-copy_sort encode c job h = absurd h
-copy_sort decode c job h = absurd h
-copy_sort probe c job h = absurd h
-
 pub finish_is_of : (n : ℕ) (history : List DeviceEvent) (core : CoreState) (holds : List HoldState) (jobs : List (Option Job)) (worker k : ℕ) (j : JobData) (finished : Brought) (fault : Bool) → IsAt n history core holds jobs → worker < 16 → HasData (after n history) worker k j → Brings k (brought_back the_coder j fault) finished → HasJob core worker k j
 finish_is_of n history core holds jobs worker k j finished fault at l h b =
     jobs_are_there the_coder n 16 core history worker k j at.stands (worker_same core (after n history) worker at.stands l ∙ h.of_slot) (ap (job_in_slot (after n history)) h.of_slot ∙ h.data_there)
@@ -275,22 +255,15 @@ is_of_worker core worker k back finished h b = record { slot = k; back = back; j
 record Ends (core : CoreState) (worker k : ℕ) (back : BroughtBack) (step : DeviceStep) : Type 0 where
   pub reply : step.reply ≡ Told k (Finished (word_of back))
   pub workers : step.device.workers ≡ set core.workers worker None
-  pub fit : (i : ℕ) (hold : HoldState) → FitsSlot (slot_of core i) hold → FitsSlot (slot_of step.device i) hold
 
-job_ends : (core : CoreState) (worker k : ℕ) (c : Context) (j : JobData) (fault : Bool) → slot_of core k ≡ Some c → j.sort ≡ copy → (o : Option Running) → is_some o ≡ true → Ends core worker k (brought_back the_coder j fault) (core_finish_job core worker k c o (brought_back the_coder j fault))
+job_ends : (core : CoreState) (worker k : ℕ) (c : Context) (j : JobData) (fault : Bool) → (o : Option Running) → is_some o ≡ true → Ends core worker k (brought_back the_coder j fault) (core_finish_job core worker k c o (brought_back the_coder j fault))
 unfolding with_slot
-job_ends core worker k c j fault e sorted None p = absurd (cc)
-job_ends core worker k c j fault e sorted (Some r) p =
-    let back = brought_back the_coder j fault in
-    record {
-      reply = refl;
-      workers = refl;
-      fit = λ i hold g. slot_fit core.slots k i c (finished_context c back) hold e (finished_fits c j fault hold sorted) g (eqb k i) refl;
-    }
+job_ends core worker k c j fault None p = absurd (cc)
+job_ends core worker k c j fault (Some r) p = record { reply = refl; workers = refl }
 
-slot_ends : (core : CoreState) (worker k : ℕ) (j : JobData) (fault : Bool) (s : Slot) → slot_of core k ≡ s → j.sort ≡ copy → RunsInSlot s j → Ends core worker k (brought_back the_coder j fault) (core_finish_slot core worker k s (brought_back the_coder j fault))
-slot_ends core worker k j fault None e sorted h = absurd h
-slot_ends core worker k j fault (Some c) e sorted h = job_ends core worker k c j fault e sorted c.running h.running
+slot_ends : (core : CoreState) (worker k : ℕ) (j : JobData) (fault : Bool) (s : Slot) → RunsInSlot s j → Ends core worker k (brought_back the_coder j fault) (core_finish_slot core worker k s (brought_back the_coder j fault))
+slot_ends core worker k j fault None h = absurd h
+slot_ends core worker k j fault (Some c) h = job_ends core worker k c j fault c.running h.running
 
 pub same_word : (j : JobData) (fault : Bool) → word_of (brought_back the_coder j fault) ≡ finish_word the_coder j fault
 unfolding finish_word
@@ -303,12 +276,12 @@ pub record FinishMade (n : ℕ) (history : List DeviceEvent) (worker k : ℕ) (j
   pub reply : (device_step the_coder (after n history) (finish worker fault)).reply ≡ Told k (Finished (finish_word the_coder j fault))
   pub at : IsAt n (history ++ finish worker fault ∷ []) now holds (set jobs worker None)
 
-pub finish_made : (n : ℕ) (history : List DeviceEvent) (core now : CoreState) (holds : List HoldState) (jobs : List (Option Job)) (worker k : ℕ) (j : JobData) (job : Job) (fault : Bool) → IsAt n history core holds jobs → worker < 16 → HasData (after n history) worker k j → IsJobOf k j job → HasJob core worker k j → now ≡ (core_finish core worker (brought_back the_coder j fault)).device → length now.slots ≡ length core.slots → length now.workers ≡ length core.workers → FinishMade n history worker k j fault now holds jobs
-finish_made n history core now holds jobs worker k j job fault at l given is has step size crew =
+pub finish_made : (n : ℕ) (history : List DeviceEvent) (core now : CoreState) (holds : List HoldState) (jobs : List (Option Job)) (worker k : ℕ) (j : JobData) (fault : Bool) → IsAt n history core holds jobs → worker < 16 → HasData (after n history) worker k j → HasJob core worker k j → now ≡ (core_finish core worker (brought_back the_coder j fault)).device → length now.slots ≡ length core.slots → ((i : ℕ) (hold : HoldState) → FitsSlot (slot_of core i) hold → FitsSlot (slot_of now i) hold) → length now.workers ≡ length core.workers → FinishMade n history worker k j fault now holds jobs
+finish_made n history core now holds jobs worker k j fault at l given has step size keeps crew =
     let back = brought_back the_coder j fault in
     let l2 : worker < length core.workers = omega (arith, at.workers) in
     let first : core_finish core worker back ≡ core_finish_slot core worker k (slot_of core k) back = ap (λ o. core_finish_of core worker o back) has.of_slot in
-    let ends = slot_ends core worker k j fault (slot_of core k) refl (copy_sort j.sort j.codec job is.sort) has.data_there in
+    let ends = slot_ends core worker k j fault (slot_of core k) has.data_there in
     let device : now ≡ (core_finish_slot core worker k (slot_of core k) back).device = step ∙ ap (λ s. s.device) first in
     let stands = finishes_stand the_coder n 16 core history worker j fault (ap (job_in_slot (after n history)) given.of_slot ∙ given.data_there) at.stands in
     let next : Stands the_coder n 16 now (history ++ finish worker fault ∷ []) = subst (λ c. Stands the_coder n 16 c (history ++ finish worker fault ∷ [])) (sym step) stands.stands in
@@ -322,7 +295,7 @@ finish_made n history core now holds jobs worker k j job fault at l given is has
         slots = size ∙ at.slots;
         workers = crew ∙ at.workers;
         users = at.users;
-        fit = λ i m. subst (λ c. FitsSlot (slot_of c i) (get_or holds i empty_hold)) (sym device) (ends.fit i (get_or holds i empty_hold) (at.fit i m));
+        fit = λ i m. keeps i (get_or holds i empty_hold) (at.fit i m);
         kept_jobs = length-set jobs worker None ∙ at.kept_jobs;
         kept = λ i m. kept_job jobs worker i None (IsKeptJob (after n (history ++ finish worker fault ∷ []))) (omega (arith, at.kept_jobs)) free (λ differs. kept_next n history i (finish worker fault) (get_or jobs i None) differs (at.kept i m)) (eqb worker i) refl;
       };

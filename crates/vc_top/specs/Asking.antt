@@ -9,10 +9,10 @@ use Rattle.vc_script.specs.declared.line.Line.TheVariants as lines
 use Rattle.vc_script.specs.Lines.{line_of}
 use Rattle.vc_model.specs.Script.{Asked, AsksNothing, AsksCall, AsksClaim, AsksFinish, AsksRun, HasUsedBytes}
 
--- Contexts that encode and decode aren't built yet: a line that opens one is bad.
+-- Contexts that decode aren't built yet: a line that opens one is bad.
 abbrev pub is_built_call : Call → Bool
 is_built_call (Open Copy) = true
-is_built_call (Open Enc) = false
+is_built_call (Open Enc) = true
 is_built_call (Open Dec) = false
 is_built_call request = true
 

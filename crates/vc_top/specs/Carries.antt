@@ -2,7 +2,7 @@
 use Rattle.std.specs.Prelude.{ℕ, ◌≡◌, ◌+◌, ◌≤◌, min, Bool, true, false, if◌then◌else◌, length, List, ◌++◌}
 use Rattle.std.specs.List.{filter}
 use Rattle.vc_base.specs.Counts.{top_count}
-use Rattle.vc_base.specs.Device.{DeviceEvent, call, claim, finish, shut}
+use Rattle.vc_base.specs.Device.{DeviceEvent, finish}
 use Rattle.vc_model.specs.Handed.{same_bool}
 use Rattle.vc_model.specs.Script.{Asked}
 use Rattle.vc_top.specs.declared.desk.Desk.{Desk}

@@ -1,12 +1,11 @@
 -- The device of a script, with what its users and its workers keep.
-use Rattle.std.specs.Prelude.{ℕ, ◌≡◌, ◌<◌, ◌≤◌, ◌+◌, ◌++◌, nat_le, if◌then◌else◌, Bool, true, false, take, get_or, length, Option, Some, None, List, [], ◌∷◌}
+use Rattle.std.specs.Prelude.{ℕ, ◌≡◌, ◌<◌, ◌≤◌, ◌++◌, nat_le, if◌then◌else◌, Bool, true, false, take, get_or, length, Option, Some, None, List, [], ◌∷◌}
 use Rattle.vc_base.specs.declared.Side.TheVariants.{Out, Cap}
 use Rattle.vc_base.specs.declared.Errno.TheVariants.{NoMem}
 use Rattle.vc_base.specs.declared.Call.{Call}
 use Rattle.vc_base.specs.declared.Call.TheVariants.{QBuf, DqBuf}
 use Rattle.vc_base.specs.declared.Reply.{Reply}
 use Rattle.vc_base.specs.declared.Reply.TheVariants.{Taken, Refused}
-use Rattle.vc_base.specs.Buffers.{is_empty}
 use Rattle.vc_base.specs.Device.{DeviceEvent, call, claim, finish}
 use Rattle.vc_model.specs.Coder.{the_coder}
 use Rattle.vc_model.specs.Runs.{JobData, finish_word}
@@ -69,16 +68,12 @@ abbrev pub taken_payload : Call → Reply → HoldState → List ℕ
 taken_payload (DqBuf Cap block) (Taken index used flags seq stamp) hold = bytes_or_none (held_payload hold Cap index)
 taken_payload request reply hold = []
 
--- whether the payload has the bytes that a reply tells
-abbrev pub has_bytes : Call → Reply → List ℕ → Bool
-has_bytes (DqBuf Cap block) (Taken index used flags seq stamp) payload = nat_le used (length payload)
-has_bytes request reply payload = true
-
--- the first bytes of the payload that was taken from CAPTURE are those that the device handed out
+-- the payload is there, and its first bytes are those that the device handed out
 abbrev pub front_is : ℕ → List ℕ → Option (List ℕ) → Type 0
-front_is used handed None = Unit {0}
-front_is used handed (Some payload) = take used payload ≡ handed
+front_is used handed None = ⊥
+front_is used handed (Some payload) = (used ≤ length payload) × (take used payload ≡ handed)
 
+-- what was taken from CAPTURE is held
 abbrev pub IsTaken : Call → Reply → List ℕ → HoldState → Type 0
 IsTaken (DqBuf Cap block) (Taken index used flags seq stamp) handed hold =
     front_is used handed (held_payload hold Cap index)

@@ -11,7 +11,6 @@ use Rattle.vc_top.specs.declared.status.Status.{Status}
 use Rattle.vc_top.specs.declared.status.Status.TheVariants.{Fine, WriteFault, BadLine, EngineFault, NoMemory}
 use Rattle.vc_top.specs.Asking.{asks_line}
 use Rattle.vc_top.specs.Carries.{LineMade}
-use Rattle.vc_top.specs.Desks.{IsDesk}
 
 -- The line was carried out, and what it prints was written.
 pub record LineDone (slots : ℕ) (history : List DeviceEvent) (line : List ℕ) (before after : Option (List ℕ)) (fault : Bool) (runs runs' faults faults' : ℕ) (desk : Desk) : Type 0 where

@@ -4,12 +4,12 @@ ghost use Rattle.std.specs.Prelude.{◌≡◌, ◌<◌, ◌≤◌, ◌+◌, ◌^
 ghost use Rattle.vc_base.specs.Device.{DeviceEvent};
 ghost use Rattle.vc_model.specs.Script.{HasUsedBytes, AsksCall, AsksClaim, AsksFinish, AsksRun};
 ghost use Rattle.vc_top.specs.Asking.{asked_of, IsAskedLine};
-ghost use Rattle.vc_top.specs.Desks.{IsDesk, IsSomeDesk, ClaimsWith, FinishesWith, has_bytes};
+ghost use Rattle.vc_top.specs.Desks.{IsDesk, IsSomeDesk, ClaimsWith, FinishesWith};
 ghost use Rattle.vc_top.specs.Carries.{LineMade};
 
 use crate::desk::Desk;
 use std::alloc::Global;
-use vc_base::{Call, NoMemory, Reply, Side};
+use vc_base::{Call, NoMemory};
 use vc_core::Engine;
 use vc_script::{Line, put_busy, put_claim, put_finish, put_idle, put_no_claim, put_reply};
 
@@ -18,22 +18,6 @@ use vc_script::{Line, put_busy, put_claim, put_finish, put_idle, put_no_claim, p
 pub(crate) struct Printed {
     pub(crate) text: Vec<u8>,
     pub(crate) fault: bool,
-}
-
-/// Whether the payload has the bytes that a reply tells.
-fn has_bytes(call: &Call, reply: &Reply, payload: &[u8]) -> bool
-    ensures { result ≡ has_bytes call.now reply.now payload.now }
-{
-    match (call, reply) {
-        (
-            Call::DqBuf {
-                side: Side::Cap,
-                ..
-            },
-            Reply::Taken { used, .. },
-        ) => *used as usize <= payload.len(),
-        _ => true,
-    }
 }
 
 fn carry_call(
@@ -51,9 +35,6 @@ fn carry_call(
 {
     let reply = desk.call(slot, call, bytes);
     let payload = desk.taken(slot, call, &reply);
-    if !has_bytes(call, &reply, payload) {
-        return Err(NoMemory);
-    }
     let mut text = Vec::new(alloc);
     put_reply(alloc, &mut text, slot, call, &reply, payload)?;
     Ok(Printed { text, fault: false })

@@ -28,12 +28,12 @@ pub(crate) enum LineStop {
     NoMemory,
 }
 
-// Whether the device has what the call asks for: there are copying contexts alone so far.
+// Whether the device has what the call asks for: there are no contexts yet that decode.
 fn is_built_call(call: &Call) -> bool
     ensures { result ≡ is_built_call call.now }
 {
     match call {
-        Call::Open { kind: Kind::Enc } | Call::Open { kind: Kind::Dec } => false,
+        Call::Open { kind: Kind::Dec } => false,
         _ => true,
     }
 }

@@ -17,4 +17,4 @@ returns-in_ok-put_no_claim-in-None-clause-done c = λ n history at.
 
 pub returns-in_ok-put_claim-in-Some-clause-done : goal.returns-in_ok-put_claim-in-Some-clause-done
 returns-in_ok-put_claim-in-Some-clause-done c = λ n history at.
-    (claim_text c.slot.result, c.in_ok-put_claim-in-Some.ensures.ok, took_done n history c.args.worker c.slot.result c.args.desk.now.core c.claim.new.self c.args.desk.now.holds.items c.args.desk.now.jobs.items c.in-Some.job _ refl refl refl at c.requires.worker (sym c.is_busy.ensures ∙ c.if-is_busy.false) c.in-Some.ensures.job c.claim.ensures.step c.claim.ensures.size c.claim.ensures.crew c.slot.ensures)
+    (claim_text c.slot.result, c.in_ok-put_claim-in-Some.ensures.ok, took_done n history c.args.worker c.slot.result c.args.desk.now.core c.claim.new.self c.args.desk.now.holds.items c.args.desk.now.jobs.items c.in-Some.job _ refl refl refl at c.requires.worker (sym c.is_busy.ensures ∙ c.if-is_busy.false) c.in-Some.ensures.job c.claim.ensures.step c.claim.ensures.size c.claim.ensures.holds c.claim.ensures.crew c.slot.ensures)

@@ -15,5 +15,5 @@ finish-requires-clause-job g c =
 pub returns-clause-done : goal.returns-clause-done
 returns-clause-done g c = λ n history at.
     let moved = moved_desk n history c.args.desk.now.core c.take_job.new.self.core c.args.desk.now.holds.items c.take_job.new.self.holds.items c.args.desk.now.jobs.items c.take_job.ensures.core (ap (λ h. h.items) c.take_job.ensures.holds) at in
-    let done = ended_done n history c.args.worker c.slot-slot.result (g.E.Engine.run_count c.args.engine.now) (g.E.Engine.run_count c.run-finished.new.engine) (g.E.Engine.fault_count c.args.engine.now) (g.E.Engine.fault_count c.run-finished.new.engine) c.word.result.now c.take_job.new.self.core c.finish.new.self c.take_job.new.self.holds.items c.args.desk.now.jobs.items c.in-Some.job c.run-finished.result (record { core = c.finish.new.self; holds = c.take_job.new.self.holds; jobs = c.take_job.new.self.jobs }) refl refl c.take_job.ensures.jobs moved c.requires.worker (sym c.take_job.ensures.job ∙ c.in-Some.is) c.run-finished.ensures.done c.slot-slot.ensures c.word.ensures c.finish.ensures.step c.finish.ensures.size c.finish.ensures.crew c.run-finished.ensures.counts in
+    let done = ended_done n history c.args.worker c.slot-slot.result (g.E.Engine.run_count c.args.engine.now) (g.E.Engine.run_count c.run-finished.new.engine) (g.E.Engine.fault_count c.args.engine.now) (g.E.Engine.fault_count c.run-finished.new.engine) c.word.result.now c.take_job.new.self.core c.finish.new.self c.take_job.new.self.holds.items c.args.desk.now.jobs.items c.in-Some.job c.run-finished.result (record { core = c.finish.new.self; holds = c.take_job.new.self.holds; jobs = c.take_job.new.self.jobs }) refl refl c.take_job.ensures.jobs moved c.requires.worker (sym c.take_job.ensures.job ∙ c.in-Some.is) c.run-finished.ensures.done c.slot-slot.ensures c.word.ensures c.finish.ensures.step c.finish.ensures.size c.finish.ensures.holds c.finish.ensures.crew c.run-finished.ensures.counts in
     (finish_text c.slot-slot.result c.word.result.now, c.in_ok-put_finish.ensures.ok, subst (λ b. FinishDone n history c.args.worker (record { core = c.finish.new.self; holds = c.take_job.new.self.holds; jobs = c.take_job.new.self.jobs }) (g.E.Engine.run_count c.args.engine.now) (g.E.Engine.run_count c.run-finished.new.engine) (g.E.Engine.fault_count c.args.engine.now) (g.E.Engine.fault_count c.run-finished.new.engine) b (finish_text c.slot-slot.result c.word.result.now)) (sym c.is_fault-fault.ensures) done)

@@ -1,7 +1,5 @@
-use Rattle.std.proofs.Common.{◌≡◌, ◌+◌, ◌<◌, ◌^◌, ◌∙◌, length, arith, rules, refl, false, subst, sym, ap}
-use Rattle.std.specs.Str.Lines.{lines}
-use Rattle.vc_top.specs.Ends.{LinesEnd}
-use Rattle.vc_top.proofs.SoFar.{SoFar, not_begun, line_more, stopped_at, write_cause, all_done, end_cause}
+use Rattle.std.proofs.Common.{◌≡◌, ◌+◌, ◌<◌, ◌∙◌, length, arith, rules, sym}
+use Rattle.vc_top.proofs.SoFar.{not_begun, line_more, stopped_at, write_cause, all_done}
 use Rattle.vc_top.proofs.script.do_lines.Goals as goal
 
 pub carrying-init : goal.carrying-init

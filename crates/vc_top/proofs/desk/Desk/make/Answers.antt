@@ -1,4 +1,4 @@
-use Rattle.std.proofs.Common.{None, replicate, sym, subst, arith, []}
+use Rattle.std.proofs.Common.{replicate, sym, subst, []}
 use Rattle.vc_model.specs.Core.{new_core}
 use Rattle.vc_context.specs.Payloads.{empty_hold}
 use Rattle.vc_top.specs.Desks.{IsAt}

@@ -1,0 +1,71 @@
+//! Runs, by their sorts.
+
+ghost use Rattle.std.specs.Prelude.{◌≡◌, ◌≤◌, ◌++◌, length, take, drop};
+ghost use Rattle.vc_work.specs.declared.engine.Outcome.TheVariants.{Copied, Encoded};
+ghost use Rattle.vc_work.specs.declared.work.Sort.TheVariants.{Copy, Encode};
+ghost use Rattle.vc_work.specs.Runs.{Fits, IsRun, KeepsLengths};
+
+use vc_frame::encode_frame;
+use vc_fwht::Transform;
+use vc_work::{Outcome, Sort, Work};
+
+/// Copies so many bytes from the front of one to the front of the other.
+fn copy_front(source: &[u8], dest: &mut [u8], count: usize)
+    requires source_has { count ≤ length source.now }
+    requires dest_has { count ≤ length dest.old }
+    ensures { dest.new ≡ take count source.now ++ drop count dest.old }
+{
+    let front = &mut dest[..count];
+    front.copy_from_slice(&source[..count]);
+}
+
+/// A copy run.
+fn run_copy(work: &mut Work) -> u32
+    requires fits { Fits work.old }
+    requires sort { work.old.sort ≡ Copy }
+    ensures run { IsRun work.old work.new (Copied result) }
+    ensures lengths { KeepsLengths work.old work.new }
+{
+    let Some(dest) = &mut work.dest else {
+        unreachable!()
+    };
+    let count = (work.source.used as usize).min(dest.len());
+    copy_front(work.source.payload.as_slice(), dest.as_mut_slice(), count);
+    count as u32
+}
+
+/// An encode run.
+fn run_encode<T: Transform>(t: &T, work: &mut Work) -> (u32, bool)
+    requires fits { Fits work.old }
+    requires sort { work.old.sort ≡ Encode }
+    ensures run { IsRun work.old work.new (Encoded result.0 result.1) }
+    ensures lengths { KeepsLengths work.old work.new }
+{
+    let Some(dest) = &mut work.dest else {
+        unreachable!()
+    };
+    let Some(reference) = &mut work.reference else {
+        unreachable!()
+    };
+    let raw = &work.source.payload[..work.source.used as usize];
+    let (used, key) = encode_frame(t, raw, &work.format, &work.rates, reference, dest);
+    (used as u32, key)
+}
+
+/// Does the run with a transform.
+pub fn run_with<T: Transform>(t: &T, work: &mut Work) -> Outcome
+    requires fits { Fits work.old }
+    ensures run { IsRun work.old work.new result }
+    ensures lengths { KeepsLengths work.old work.new }
+{
+    match work.sort {
+        Sort::Copy => {
+            let used = run_copy(work);
+            Outcome::Copied { used }
+        },
+        Sort::Encode => {
+            let (used, key) = run_encode(t, work);
+            Outcome::Encoded { used, key }
+        },
+    }
+}
