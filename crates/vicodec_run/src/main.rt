@@ -9,11 +9,12 @@ use std::process::ExitCode;
 use std::rt::Env;
 use std::{env, io};
 use vc_core::Engine;
-use vc_engine::PlainEngine;
+use vc_engine::{FastEngine, PlainEngine};
 use vc_io::{StdSink, StdSource};
+use vc_lanes::LaneEngine;
 use vc_top::{Status, top};
 
-/// How many engines are handed in, all plain.
+/// How many engines are handed in: plain, fast and lane engines in turn.
 const ENGINES: u32 = 16;
 
 /// The words behind the program's name.
@@ -37,11 +38,22 @@ fn run(rt: &HostRuntime) -> Status {
         Err(status) => return status,
     };
     let mut engines: Vec<Box<dyn Engine + Send>> = Vec::new(alloc);
-    for _engine in 0..ENGINES {
-        let Ok(engine) = Box::new(alloc, PlainEngine::new()) else {
-            return Status::NoMemory;
+    for number in 0..ENGINES {
+        let refused = match number % 3 {
+            0 => match Box::new(alloc, PlainEngine::new()) {
+                Ok(engine) => engines.push(engine).is_err(),
+                Err(_) => true,
+            },
+            1 => match Box::new(alloc, FastEngine::new()) {
+                Ok(engine) => engines.push(engine).is_err(),
+                Err(_) => true,
+            },
+            _ => match Box::new(alloc, LaneEngine::new()) {
+                Ok(engine) => engines.push(engine).is_err(),
+                Err(_) => true,
+            },
         };
-        if engines.push(engine).is_err() {
+        if refused {
             return Status::NoMemory;
         }
     }
