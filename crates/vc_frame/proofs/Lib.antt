@@ -5,3 +5,4 @@ pub mod WholeBodies
 pub mod Pictures
 pub mod EncodedFrames
 pub mod DecodedFrames
+pub mod ComesBack

@@ -7,8 +7,12 @@
 
 mod decoding;
 mod encoding;
+pub mod laws;
 mod order;
 mod planes;
 
 pub use decoding::decode_frame;
 pub use encoding::encode_frame;
+
+#[cfg(test)]
+mod tests;
