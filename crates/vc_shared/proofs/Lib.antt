@@ -10,6 +10,7 @@ pub mod KeepingJobs
 pub mod Logs
 pub mod Memory
 pub mod Moving
+pub mod Remembering
 pub mod Resting
 pub mod Seeing
 pub mod Shutting

@@ -1,3 +1,5 @@
+pub mod AsPort
+pub mod AsStation
 pub mod Calls
 pub mod Claiming
 pub mod Claims

@@ -84,6 +84,13 @@ impl<'a, R> Handle<'a, R> {
         seat
     }
 
+    /// What is known of every handle.
+    pub(crate) fn known(&self)
+        ensures { IsHandle self.now }
+    {
+        self.seat.known();
+    }
+
     /// The payload of a buffer, where the user holds it. It takes no lock.
     pub fn payload(&self, side: Side, index: u32) -> Option<&[u8]>
         ensures { option_map (λ s. s.now) result ≡ held_payload self.now.hold side index }

@@ -8,6 +8,8 @@
 //! but for what each has seen.
 #![tactic(auto)]
 
+mod as_port;
+mod as_station;
 mod calls;
 mod handle;
 mod handle_seat;

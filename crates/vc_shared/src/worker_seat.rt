@@ -51,6 +51,13 @@ impl<'a, R> WorkerSeat<'a, R> {
         }
     }
 
+    /// What is known of every worker's seat.
+    pub(crate) fn known(&self)
+        ensures { IsWorker self.now }
+    {
+        self.seat.known();
+    }
+
     /// The seat at the device, with all that it knows.
     pub fn into_seat(self) -> JobSeat
         ensures { result ≡ self.entry }
