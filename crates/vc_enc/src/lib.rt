@@ -2,6 +2,10 @@
 //!
 //! The rules follow the chapter "Memory-to-Memory Stateful Video Encoder Interface" of the Linux userspace
 //! API documentation, as far as docs/DEVICE.md does not say otherwise.
+//!
+//! Each call, claim and finish leaves exactly the context that the definitions of `vc_model` say, and tells
+//! exactly their reply. Memory is taken when a context is made, and by ReqBufs and CreateBufs: these take
+//! all that later runs need before they change anything. What a run itself does is proved where engines are.
 #![tactic(auto)]
 
 ghost use Rattle.std.specs.Prelude.{◌≡◌, ℕ, false, IfOk, Some, [], is_some};

@@ -1,6 +1,3 @@
-use Rattle.std.proofs.Common.{ap, sym}
-use Rattle.vc_base.specs.declared.Kind.{Kind}
-use Rattle.vc_model.specs.Context.{Context}
 use Rattle.vc_enc.proofs.Trying.{fault_back, has_room, one_more}
 use Rattle.vc_enc.proofs.tests.fault.Goals as goal
 

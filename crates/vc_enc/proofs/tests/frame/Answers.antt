@@ -1,5 +1,4 @@
 use Rattle.std.proofs.Common.{ap, sym}
-use Rattle.vc_base.specs.declared.Kind.{Kind}
 use Rattle.vc_model.specs.Context.{Context}
 use Rattle.vc_enc.proofs.Trying.{frame_back, has_room, one_more}
 use Rattle.vc_enc.proofs.tests.frame.Goals as goal
