@@ -10,7 +10,7 @@ use Rattle.vc_base.specs.declared.Fourcc.{Fourcc}
 use Rattle.vc_defs.specs.declared.Geometry.{Geometry}
 use Rattle.vc_defs.specs.Places.{Frame}
 use Rattle.vc_defs.specs.Finds.{Find, Head, Ended, KeptBytes, FedStep, fed}
-use Rattle.vc_defs.specs.Decoder.{GivenResult, BetweenFrames, ReferenceState, outcome_of, step_outcome, geometry_after, decode, is_change, given_at_end, given_by_find}
+use Rattle.vc_defs.specs.Decoder.{GivenResult, BetweenFrames, ReferenceState, outcome_of, outcome_of_result, step_outcome, geometry_after_kind, geometry_after, decode, is_change, given_at_end, given_by_find, FrameResult, ResultKind, Picture, Damaged, Changed, DecodedStep}
 use Rattle.vc_defs.specs.Raw.{grey}
 use Rattle.vc_defs.proofs.Parsing.{some_same}
 use Rattle.vc_work.specs.References.{CodecReference}
@@ -19,7 +19,7 @@ use Rattle.vc_resync.specs.Assembling.{AssemblyState, found_of, frame_of, assemb
 use Rattle.vc_resync.specs.Decoding.{RunEnd}
 use Rattle.vc_decode.specs.declared.decoded.Decoded.{Decoded}
 use Rattle.vc_decode.specs.declared.decoded.Decoded.TheVariants.{Spent}
-use Rattle.vc_decode.specs.Running.{decoder_of, answer_of, IsInStep}
+use Rattle.vc_decode.specs.Running.{decoder_of, answer_of, geometry_behind, IsInStep}
 use Rattle.vc_decode.specs.Steps.{RunPoint, present_of, ended_by, ended_at, HasPresent, EndsPresent, probed_by, probed_at}
 use Rattle.vc_decode.proofs.Feeding.{At, at_next, ahead, comes_closer, ends_present, found_present}
 use Rattle.vc_decode.proofs.Coming.{Going, going_next, Comes, end_outcome, comes_none, comes_one, change_of, just_one, Finished, finishes}
@@ -217,3 +217,22 @@ probe_goes_on limit first source stamp taken kept count found new answer a g f p
     by_told : (o : Option Find) → f.step.told ≡ o → GoesOn limit stamp unknown first source taken kept count new.kept
     by_told None e = absurd (none-some Spent (p None e))
     by_told (Some find) e = by_given find (given_by_find find unknown) e refl (p (Some find) e)
+
+-- Section: the geometry behind a run.
+
+pub behind_is : (fourcc : Fourcc) (step : DecodedStep) (answer : Decoded) (present : Option Geometry) → answer ≡ answer_of (step_outcome fourcc step) → geometry_after step.given present ≡ geometry_behind answer present
+behind_is fourcc step answer present e = by_given step.given ∙ ap (λ (d : Decoded). geometry_behind d present) (sym e)
+  where
+    by_kind : (kind : ResultKind) → geometry_after_kind kind present ≡ geometry_behind (answer_of (outcome_of fourcc kind step.stamp)) present
+    by_kind (Picture geometry key planes) = refl
+    by_kind Damaged = refl
+    by_kind (Changed geometry) = refl
+
+    by_given : (given : Option FrameResult) → geometry_after given present ≡ geometry_behind (answer_of (outcome_of_result fourcc given step.stamp)) present
+    by_given None = refl
+    by_given (Some r) = by_kind r.kind
+
+pub step_behind : (limit limit' : ℕ) (fourcc : Fourcc) (step : DecodedStep) (answer : Decoded) (present : Option Geometry) (reference : Option ReferenceState) (kept : KeptBytes) → limit' ≡ limit → answer ≡ answer_of (step_outcome fourcc step) → IsInStep limit (geometry_after step.given present) reference kept → IsInStep limit' (geometry_behind answer present) reference kept
+step_behind limit limit' fourcc step answer present reference kept same e i =
+    subst (λ (n : ℕ). IsInStep n (geometry_behind answer present) reference kept) (sym same)
+    (subst (λ (g : Option Geometry). IsInStep limit g reference kept) (behind_is fourcc step answer present e) i)

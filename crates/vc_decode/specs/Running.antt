@@ -2,7 +2,7 @@
 -- Runs are docs/DEVICE.md, "Runs"; results are docs/FORMAT.md, "The sequential decoder".
 use Rattle.std.specs.Prelude.{◌≡◌, ℕ, List, length}
 use Rattle.std.specs.declared.option.Option.{Option}
-use Rattle.std.specs.declared.option.Option.TheVariants.{None}
+use Rattle.std.specs.declared.option.Option.TheVariants.{Some, None}
 use Rattle.vc_base.specs.declared.Stamp.{Stamp}
 use Rattle.vc_defs.specs.declared.Geometry.{Geometry}
 use Rattle.vc_defs.specs.Finds.{KeptBytes, nothing_kept}
@@ -30,6 +30,13 @@ shown_in (picture bytes key stamp) dest = put_over bytes dest
 shown_in (damaged stamp) dest = dest
 shown_in (changed geometry) dest = dest
 shown_in spent dest = dest
+
+-- the geometry behind a run: a change brings the new one
+abbrev pub geometry_behind : Decoded → Option Geometry → Option Geometry
+geometry_behind (Picture used key stamp) present = present
+geometry_behind (Damaged stamp) present = present
+geometry_behind (Changed geometry) present = Some geometry
+geometry_behind Spent present = present
 
 -- What is kept and what the decoder has belong together: since it began anew, with a geometry or none, some bytes were
 -- consumed, so many headers and frames of them told, and so many results given.

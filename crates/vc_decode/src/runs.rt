@@ -2,11 +2,11 @@
 
 ghost use Rattle.std.specs.Prelude.{◌≡◌, ◌≤◌, length, Some, None};
 ghost use Rattle.vc_base.specs.declared.Fourcc.{Fourcc};
-ghost use Rattle.vc_defs.specs.Decoder.{decode, step_outcome, geometry_after};
+ghost use Rattle.vc_defs.specs.Decoder.{decode, step_outcome};
 ghost use Rattle.vc_defs.specs.Laws.{IsRawFormat};
 ghost use Rattle.vc_work.specs.Runs.{format_geometry};
 ghost use Rattle.vc_frame.specs.Frames.{with_picture};
-ghost use Rattle.vc_decode.specs.Running.{decoder_of, answer_of, shown_in, IsInStep};
+ghost use Rattle.vc_decode.specs.Running.{decoder_of, answer_of, shown_in, geometry_behind, IsInStep};
 
 use crate::decoded::Decoded;
 use crate::ending::{ended_at, probed_at};
@@ -44,7 +44,7 @@ pub fn decode_run<T: Transform>(
     ensures state { let step = decode (decoder_of reference.old.state.reference assembly.old.kept) (Some geometry.now) assembly.old.limit source.now stamp in decoder_of reference.new.state.reference assembly.new.kept ≡ step.state }
     ensures picture { let step = decode (decoder_of reference.old.state.reference assembly.old.kept) (Some geometry.now) assembly.old.limit source.now stamp in reference.new ≡ with_picture step.state.reference reference.old }
     ensures limit { assembly.new.limit ≡ assembly.old.limit }
-    ensures in_step { let step = decode (decoder_of reference.old.state.reference assembly.old.kept) (Some geometry.now) assembly.old.limit source.now stamp in IsInStep assembly.old.limit (geometry_after step.given (Some geometry.now)) reference.new.state.reference assembly.new.kept }
+    ensures in_step { IsInStep assembly.new.limit (geometry_behind result.1 (Some geometry.now)) reference.new.state.reference assembly.new.kept }
     ensures inside { result.0 ≤ length source.now }
 {
     let mut taken = 0;
@@ -70,7 +70,7 @@ pub fn probe_run(assembly: &mut Assembly, source: &[u8], stamp: Stamp) -> (usize
     ensures answer { let step = decode (decoder_of None assembly.old.kept) None assembly.old.limit source.now stamp in (fourcc : Fourcc) → result.1 ≡ answer_of (step_outcome fourcc step) }
     ensures state { let step = decode (decoder_of None assembly.old.kept) None assembly.old.limit source.now stamp in decoder_of None assembly.new.kept ≡ step.state }
     ensures limit { assembly.new.limit ≡ assembly.old.limit }
-    ensures in_step { let step = decode (decoder_of None assembly.old.kept) None assembly.old.limit source.now stamp in IsInStep assembly.old.limit (geometry_after step.given None) None assembly.new.kept }
+    ensures in_step { IsInStep assembly.new.limit (geometry_behind result.1 None) None assembly.new.kept }
     ensures inside { result.0 ≤ length source.now }
 {
     let mut taken = 0;

@@ -2,8 +2,11 @@ use Rattle.std.proofs.Common.{◌∙◌, ap, refl, arith, None}
 use Rattle.vc_resync.specs.Assembling.{AssemblyState}
 use Rattle.vc_decode.proofs.Feeding.{at_first}
 use Rattle.vc_decode.proofs.Coming.{going_first}
+use Rattle.vc_defs.specs.Raw.{grey}
+use Rattle.vc_defs.specs.Decoder.{decode}
+use Rattle.vc_decode.specs.Running.{decoder_of}
 use Rattle.vc_decode.specs.Steps.{present_of}
-use Rattle.vc_decode.proofs.Looping.{is_fed, fed_present, probe_finishes, probe_goes_on}
+use Rattle.vc_decode.proofs.Looping.{step_behind, is_fed, fed_present, probe_finishes, probe_goes_on}
 use Rattle.vc_decode.proofs.runs.probe_run.Goals as goal
 
 pub loop-decoded-init : goal.loop-decoded-init
@@ -43,10 +46,14 @@ returns-in-Some-clause-state c =
 
 pub returns-in-Some-clause-in_step : goal.returns-in-Some-clause-in_step
 returns-in-Some-clause-in_step c =
-    (probe_finishes c.args.assembly.now.limit c.args.assembly.now.kept c.args.source.now c.args.stamp c.loop-decoded.taken c.loop-decoded.assembly.kept c.feed-count.result.0 c.feed-count.result.1 c.feed-count.new.assembly c.probed_at.result c.in-Some.decoded
+    let f = probe_finishes c.args.assembly.now.limit c.args.assembly.now.kept c.args.source.now c.args.stamp c.loop-decoded.taken c.loop-decoded.assembly.kept c.feed-count.result.0 c.feed-count.result.1 c.feed-count.new.assembly c.probed_at.result c.in-Some.decoded
     c.requires.in_step c.loop-decoded.invariant.point c.loop-decoded.invariant.going
     (is_fed c.args.assembly.now.limit c.args.stamp c.args.source.now c.loop-decoded.taken c.loop-decoded.assembly c.feed-count.new.assembly c.feed-count.result.0 c.feed-count.result.1 c.loop-decoded.invariant.limit c.loop-decoded.invariant.inside c.feed-count.ensures.taken c.feed-count.ensures.found c.feed-count.ensures.after c.feed-count.ensures.inside)
-    c.probed_at.ensures c.in-Some.is).in_step
+    c.probed_at.ensures c.in-Some.is in
+    step_behind c.args.assembly.now.limit c.feed-count.new.assembly.limit grey
+    (decode (decoder_of None c.args.assembly.now.kept) None c.args.assembly.now.limit c.args.source.now c.args.stamp)
+    c.in-Some.decoded None None c.feed-count.new.assembly.kept
+    (ap (λ (a : AssemblyState). a.limit) c.feed-count.ensures.after ∙ c.loop-decoded.invariant.limit) (f.answers grey) f.in_step
 
 pub loop-decoded-smaller : goal.loop-decoded-smaller
 loop-decoded-smaller c =
