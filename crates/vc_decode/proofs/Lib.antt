@@ -1,0 +1,4 @@
+mod Feeding
+mod Coming
+mod Showing
+mod Looping
