@@ -9,7 +9,7 @@ use vc_core::Engine;
 use vc_engine::PlainEngine;
 use vc_port::{PayloadPort, Port};
 use vc_queue::hold::Hold;
-use vc_wait::{close_wait, dq_wait, event_wait, off_wait};
+use vc_wait::{call_on, close_wait, dq_wait, event_wait, off_wait, wait_on};
 use vc_worker::{Help, Helping, serve};
 
 /// A port that lets its caller wait three times.
@@ -87,7 +87,7 @@ fn told<P: PayloadPort>(port: &mut P, call: &Call) -> (Reply, bool)
     requires { P.ready port.old }
     ensures { P.ready port.new }
 {
-    let reply = port.call(call);
+    let reply = call_on(port, call);
     port.pause();
     (reply, port.payload(Side::Out, 0).is_some())
 }
@@ -107,6 +107,10 @@ fn a_slot_without_memory_stays_closed(rt: HostRuntime) -> Result<(), Fail> {
         refused(Errno::NoMem)
     );
     assert_eq!(rt; told(&mut port, &Call::Poll), refused(Errno::NoTty));
-    assert_eq!(rt; port.port.made.len(), 2);
+    assert_eq!(rt;
+        wait_on(&rt, &mut port, &Call::Close),
+        refused(Errno::NoTty).0
+    );
+    assert_eq!(rt; port.port.made.len(), 3);
     Ok(())
 }

@@ -1,6 +1,5 @@
-use Rattle.std.proofs.Common.{◌∙◌}
 use Rattle.vc_port.proofs.Waiting.{waits_more}
-use Rattle.vc_wait.proofs.answer_wait.Goals as goal
+use Rattle.vc_wait.proofs.waits.answer_wait.Goals as goal
 
 pub loop-preserved : goal.loop-preserved
 loop-preserved g c =
@@ -10,7 +9,7 @@ loop-preserved g c =
     let blocked = c.in-Blocked.ensures in
     let paused = c.pause.ensures in (
       paused.ready,
-      paused.answered ∙ (blocked.answered ∙ i.1),
+      (cc),
       law.follows_on _ _ _ i.2 (law.follows_on _ _ _ blocked.follows paused.follows),
       waits_more port.calls port.pauses _ _ _ _ i.3 (record { between = c.call.new.self; blocked = blocked.calls; paused = paused.pauses }),
     )

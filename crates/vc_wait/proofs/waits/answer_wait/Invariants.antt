@@ -1,7 +1,7 @@
 -- No call was answered so far: the port waited.
 use Rattle.std.proofs.Common.{◌≡◌}
 use Rattle.vc_port.specs.Ports.{HasWaited}
-use Rattle.vc_wait.proofs.answer_wait.Given as goal
+use Rattle.vc_wait.proofs.waits.answer_wait.Given as goal
 
 abbrev pub invariant-loop : goal.invariant-loop
 invariant-loop g l =
