@@ -60,6 +60,8 @@ fn no_bytes(alloc: Global) -> Work
             stamp: Stamp(0),
         },
         dest: Some(Vec::new(alloc)),
+        reference: None,
+        geometry: None,
         format: Format {
             fourcc: Fourcc(*b"DATA"),
             width: 0,

@@ -1,5 +1,12 @@
 use Rattle.vc_worker.specs.Gains.{gained_none, gained_on, gained_one}
+use Rattle.std.proofs.Common.{sym, subst}
+use Rattle.vc_port.specs.Stations.{IsOf}
 use Rattle.vc_worker.proofs.worker.serve.Goals as goal
+
+pub finish-requires : goal.finish-requires
+finish-requires g c =
+    subst (λ has. IsOf has c.run-finished.result) (sym c.in-Job.ensures.claimed.has_it)
+    (c.run-finished.ensures.done _ _ c.in-Job.ensures.claimed.is_of)
 
 pub loop-init : goal.loop-init
 loop-init g c = (c.requires, g.met.T.Station.follows_self c.args.station, gained_none _ _ _)
