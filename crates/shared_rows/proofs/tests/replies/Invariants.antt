@@ -1,5 +1,0 @@
-use Rattle.vc_shared.specs.Following.{HandleFollows}
-use Rattle.shared_rows.proofs.tests.replies.Given as goal
-
-abbrev pub invariant-loop-call : goal.invariant-loop-call
-invariant-loop-call g l = HandleFollows l.fn.handle l.handle
