@@ -1,20 +1,23 @@
 -- What a run does, by the table of runs of docs/DEVICE.md.
-use Rattle.std.specs.Prelude.{ℕ, ◌≡◌, ◌≤◌, ◌+◌, ◌++◌, Bool, length, take, drop, min, vec_len, Option, Some, None, IsTrue, is_some, List}
+use Rattle.std.specs.Prelude.{ℕ, ◌≡◌, ◌≤◌, ◌+◌, ◌++◌, Bool, true, length, take, drop, min, vec_len, Option, Some, None, IsTrue, is_some, List}
 use Rattle.std.specs.Option.{option_map}
 use Rattle.vc_base.specs.declared.Format.{Format}
 use Rattle.vc_defs.specs.declared.Geometry.{Geometry}
 use Rattle.vc_defs.specs.Bodies.{padded_sum}
 use Rattle.vc_defs.specs.Raw.{layout_of}
-use Rattle.vc_defs.specs.Decoder.{ReferenceState}
+use Rattle.vc_defs.specs.Headers.{is_legal_geometry}
+use Rattle.vc_defs.specs.Decoder.{ReferenceState, DecoderState, DecodedStep, DecodedResult, picture, damaged, changed, spent, decode, step_outcome}
 use Rattle.vc_defs.specs.Encoder.{RunRates, EncoderState, EncodedFrame, encode, fresh_encoder}
 use Rattle.vc_defs.specs.Laws.{IsRawFormat, AreRates}
+use Rattle.vc_resync.specs.Assembling.{AssemblyState}
 use Rattle.vc_work.specs.References.{CodecReference}
+use Rattle.vc_work.specs.Streams.{decoder_of, picture_of, kept_of, IsInStep, HasStream}
 use Rattle.vc_work.specs.declared.work.Sort.{Sort}
-use Rattle.vc_work.specs.declared.work.Sort.TheVariants.{Copy, Encode}
+use Rattle.vc_work.specs.declared.work.Sort.TheVariants.{Copy, Encode, Probe, Decode}
 use Rattle.vc_work.specs.declared.work.Rates.{Rates}
 use Rattle.vc_work.specs.declared.work.Work.{Work}
 use Rattle.vc_work.specs.declared.engine.Outcome.{Outcome}
-use Rattle.vc_work.specs.declared.engine.Outcome.TheVariants.{Copied, Encoded}
+use Rattle.vc_work.specs.declared.engine.Outcome.TheVariants.{Copied, Encoded, Picture, Damaged, Changed, Spent}
 
 -- the bytes of the destination, where there is one
 abbrev pub dest_bytes : Work → Option (List ℕ)
@@ -52,10 +55,34 @@ pub record HasPicture (w : Work) : Type 0 where
   pub reference : HasReference w.format w.reference
   pub rates : AreRates (run_rates w.rates)
 
+-- the reference is there, and has room for so many bytes
+abbrev pub HasArea : ℕ → Option CodecReference → Type 0
+HasArea least None = ⊥
+HasArea least (Some r) = least ≤ r.size
+
+-- what a decode run needs: a place in its source, the geometry, its raw format with room for a picture of it in the
+-- destination and in the reference, and what is kept of the stream
+pub record HasFrames (w : Work) : Type 0 where
+  pub cursor : w.source.cursor ≤ w.source.used
+  pub format : IsRawFormat w.format
+  pub geometry : w.geometry ≡ Some (format_geometry w.format)
+  pub dest : HasDest w.format.size (dest_bytes w)
+  pub reference : HasArea w.format.size w.reference
+  pub stream : HasStream w.limit w.geometry (picture_of w.reference) w.assembly
+
+-- what a probe needs: a place in its source, and what is kept of a stream whose geometry is not known
+pub record HasHeaders (w : Work) : Type 0 where
+  pub cursor : w.source.cursor ≤ w.source.used
+  pub geometry : w.geometry ≡ None
+  pub reference : w.reference ≡ None
+  pub stream : HasStream w.limit None None w.assembly
+
 -- what a run of the sort needs beside its source. A copy run and an encode run do not look at the cursor
 abbrev pub HasAll : Sort → Work → Type 0
 HasAll Copy w = IsTrue (is_some w.dest)
 HasAll Encode w = HasPicture w
+HasAll Probe w = HasHeaders w
+HasAll Decode w = HasFrames w
 
 -- The work fits: what the run reads and writes is there.
 pub record Fits (w : Work) : Type 0 where
@@ -66,11 +93,16 @@ pub record Fits (w : Work) : Type 0 where
 abbrev pub reference_size : Work → Option ℕ
 reference_size w = option_map (λ (r : CodecReference). r.size) w.reference
 
--- each payload keeps its length, and the reference its size
+-- the most bytes of a body that the assembly, where there is one, has room for
+abbrev pub assembly_limit : Work → Option ℕ
+assembly_limit w = option_map (λ (a : AssemblyState). a.limit) w.assembly
+
+-- each payload keeps its length, the reference its size and the assembly its room
 pub record KeepsLengths (old new : Work) : Type 0 where
   pub source : vec_len new.source.payload ≡ vec_len old.source.payload
   pub dest : option_map length (dest_bytes new) ≡ option_map length (dest_bytes old)
   pub reference : reference_size new ≡ reference_size old
+  pub assembly : assembly_limit new ≡ assembly_limit old
 
 -- how many bytes a copy run copies: those of the source, as far as the destination has room
 abbrev pub copied_length : ℕ → List ℕ → ℕ
@@ -87,7 +119,7 @@ pub record IsCopied (old new : Work) (used : ℕ) : Type 0 where
   pub dest : dest_bytes new ≡ option_map (copied_over old.source.payload.items old.source.used) (dest_bytes old)
   pub told : option_map (copied_length old.source.used) (dest_bytes old) ≡ Some used
   pub reference : new.reference ≡ old.reference
-  pub geometry : new.geometry ≡ old.geometry
+  pub assembly : new.assembly ≡ old.assembly
 
 -- the state of a reference; without one it is that of a new encoder
 abbrev pub coder_state : Option CodecReference → EncoderState
@@ -113,7 +145,61 @@ pub record IsEncoded (old new : Work) (used : ℕ) (key : Bool) : Type 0 where
   pub told : used ≡ length (next_frame old).bytes
   pub told_key : key ≡ (next_frame old).key
   pub reference : new.reference ≡ option_map (with_state (next_frame old).state) old.reference
-  pub geometry : new.geometry ≡ old.geometry
+  pub assembly : new.assembly ≡ old.assembly
+
+-- the state of the decoder
+abbrev pub stream_state : Work → DecoderState
+stream_state w = decoder_of (picture_of w.reference) (kept_of w.assembly)
+
+-- the bytes of the source from the cursor on
+abbrev pub fresh_bytes : Work → List ℕ
+fresh_bytes w = drop w.source.cursor (take w.source.used w.source.payload.items)
+
+-- the next result of the stream
+abbrev pub next_result : Work → DecodedStep
+next_result w = decode (stream_state w) w.geometry w.limit (fresh_bytes w) w.source.stamp
+
+-- a result as a run tells it: the bytes of a picture stand in the destination
+abbrev pub told_as : DecodedResult → Outcome
+told_as (picture bytes key stamp) = Picture (length bytes) key stamp
+told_as (damaged stamp) = Damaged stamp
+told_as (changed geometry) = Changed geometry
+told_as spent = Spent
+
+-- the destination after a result: a picture's bytes stand at its front
+abbrev pub shown_in : DecodedResult → List ℕ → List ℕ
+shown_in (picture bytes key stamp) dest = put_over bytes dest
+shown_in (damaged stamp) dest = dest
+shown_in (changed geometry) dest = dest
+shown_in spent dest = dest
+
+-- the geometry after a result: a change brings the new one
+abbrev pub geometry_behind : DecodedResult → Option Geometry → Option Geometry
+geometry_behind (picture bytes key stamp) present = present
+geometry_behind (damaged stamp) present = present
+geometry_behind (changed geometry) present = Some geometry
+geometry_behind spent present = present
+
+-- a geometry that a change brings is legal
+abbrev pub BringsLegal : DecodedResult → Type 0
+BringsLegal (picture bytes key stamp) = Unit {0}
+BringsLegal (damaged stamp) = Unit {0}
+BringsLegal (changed geometry) = is_legal_geometry geometry ≡ true
+BringsLegal spent = Unit {0}
+
+-- A run of a decoder, or a probe, consumes the source up to the next result: what it tells, what it shows in the
+-- destination, and what is kept for the next run.
+pub record IsDecoded (old new : Work) (result : DecodedResult) : Type 0 where
+  pub cursor : new.source.cursor ≡ old.source.cursor + (next_result old).moved
+  pub inside : new.source.cursor ≤ old.source.used
+  pub dest : dest_bytes new ≡ option_map (shown_in result) (dest_bytes old)
+  pub state : stream_state new ≡ (next_result old).state
+  pub stream : HasStream old.limit (geometry_behind result old.geometry) (picture_of new.reference) new.assembly
+  pub legal : BringsLegal result
+
+-- the result for the client of the destination's format
+abbrev pub result_of : Work → DecodedResult
+result_of w = step_outcome w.format.fourcc (next_result w)
 
 -- what every run leaves as it was
 pub record KeepsRest (old new : Work) : Type 0 where
@@ -124,13 +210,19 @@ pub record KeepsRest (old new : Work) : Type 0 where
   pub format : new.format ≡ old.format
   pub limit : new.limit ≡ old.limit
   pub rates : new.rates ≡ old.rates
+  pub geometry : new.geometry ≡ old.geometry
+
+-- what a run of a decoder comes to: it tells its result
+abbrev pub DoesDecode : Work → Work → Outcome → Type 0
+DoesDecode old new outcome = (outcome ≡ told_as (result_of old)) × IsDecoded old new (result_of old)
 
 -- what a run of the sort comes to
 abbrev pub Does : Sort → Work → Work → Outcome → Type 0
 Does Copy old new (Copied used) = IsCopied old new used
-Does Copy old new (Encoded used key) = ⊥
-Does Encode old new (Copied used) = ⊥
 Does Encode old new (Encoded used key) = IsEncoded old new used key
+Does Probe old new outcome = DoesDecode old new outcome
+Does Decode old new outcome = DoesDecode old new outcome
+Does sort old new outcome = ⊥
 
 -- The outcome of a run, and the work after it, from the work before.
 pub record IsRun (old new : Work) (outcome : Outcome) : Type 0 where

@@ -5,6 +5,8 @@ ghost use Rattle.vc_base.specs.Counts.{OneMore, Rose};
 ghost use Rattle.vc_work.specs.Runs.{Fits, IsRun, KeepsLengths};
 
 use crate::work::Work;
+use vc_base::Stamp;
+use vc_defs::Geometry;
 
 /// What a run came to.
 #[derive(Clone, Copy, Debug, PartialEq, Eq)]
@@ -13,6 +15,15 @@ pub enum Outcome {
     Copied { used: u32 },
     /// A frame of so many bytes stands at the front of the destination; `key` where it is an I frame.
     Encoded { used: u32, key: bool },
+    /// A picture of so many bytes stands at the front of the destination; `key` where its frame is an I frame. The
+    /// stamp is that of the frame's first byte.
+    Picture { used: u32, key: bool, stamp: Stamp },
+    /// A frame gave no picture. The stamp is that of its first byte.
+    Damaged { stamp: Stamp },
+    /// The header of an I frame has another geometry than the present one.
+    Changed { geometry: Geometry },
+    /// All bytes were consumed, and gave no result.
+    Spent,
 }
 
 /// The engine gave up. Nothing is known of the bytes of the work then.

@@ -3,6 +3,7 @@
 use crate::reference::Reference;
 use vc_base::{Format, Stamp};
 use vc_defs::Geometry;
+use vc_resync::Assembly;
 
 /// What is to be done in a run.
 #[derive(Clone, Copy, Debug, PartialEq, Eq)]
@@ -11,6 +12,10 @@ pub enum Sort {
     Copy,
     /// The picture of the source becomes the next frame of an encoder.
     Encode,
+    /// The bytes of the source are looked through for the first header of an I frame, which tells the geometry.
+    Probe,
+    /// The bytes of the source are consumed up to a decoder's next result.
+    Decode,
 }
 
 /// An OUTPUT buffer on its way through a job. Of its payload the first `used` bytes count, and a decoder
@@ -32,11 +37,12 @@ pub struct Rates {
     pub pqp: u32,
 }
 
-/// All that a run needs. The destination is the payload of a CAPTURE buffer; every copy run and every encode
-/// run has one. `reference` is what the codec keeps from frame to frame, which every encode run needs, and
-/// `geometry` the decoder's geometry, once it is known. `format` is the format that counts in the run, that of
-/// OUTPUT in an encode run and that of CAPTURE in every other one; `limit` is the size of OUTPUT's buffers in
-/// bytes.
+/// All that a run needs. The destination is the payload of a CAPTURE buffer; every run but a probe has one.
+/// `reference` is what the codec keeps from frame to frame, which encode runs and decode runs need; `assembly` is
+/// what a decoder keeps of the bytes of its stream, which probes and decode runs need, and `geometry` the
+/// decoder's geometry, once it is known. `format` is the format that counts in the run, that of OUTPUT in an
+/// encode run and that of CAPTURE in every other one; `limit` is the size of OUTPUT's buffers in bytes, which
+/// is a decoder's bound on the body of a frame.
 #[derive(Drop)]
 pub struct Work {
     pub sort: Sort,
@@ -44,6 +50,7 @@ pub struct Work {
     pub dest: Option<Vec<u8>>,
     pub reference: Option<Reference>,
     pub geometry: Option<Geometry>,
+    pub assembly: Option<Assembly>,
     pub format: Format,
     pub limit: u32,
     pub rates: Rates,

@@ -1,0 +1,9 @@
+//! Laws of what a decoder keeps, proved from the definitions alone.
+
+ghost use Rattle.vc_work.specs.Streams.{BeginsInStep};
+
+/// An assembly that keeps nothing, a reference without a picture and any geometry or none are in step: so a decoder may
+/// begin.
+pub fn begins_in_step()
+    ensures { BeginsInStep }
+{}
