@@ -1,5 +1,5 @@
 -- A decoder context (docs/DEVICE.md, "One context"; "Memory-to-Memory Stateful Video Decoder Interface").
-use Rattle.std.specs.Prelude.{ℕ, ◌≡◌, ◌<◌, ◌==◌, Bool, true, if◌then◌else◌, map, Option, Some, None, List, [], ◌∷◌, ◌++◌, ◌&&◌, false}
+use Rattle.std.specs.Prelude.{ℕ, ◌≡◌, ◌<◌, ◌==◌, nat_le, Bool, true, if◌then◌else◌, map, Option, Some, None, List, [], ◌∷◌, ◌++◌, ◌&&◌, false}
 use Rattle.std.specs.List.{list_all, list_any}
 use Rattle.vc_base.specs.declared.Kind.TheVariants.{Dec}
 use Rattle.vc_base.specs.declared.Side.{Side}
@@ -7,7 +7,7 @@ use Rattle.vc_base.specs.declared.Side.TheVariants.{Out, Cap}
 use Rattle.vc_base.specs.Buffers.{Buffer, QueueState, buffer_count}
 use Rattle.vc_base.specs.Events.{EventState, raise_after, eos_event}
 use Rattle.vc_defs.specs.declared.Geometry.{Geometry}
-use Rattle.vc_defs.specs.Decoder.{ReferenceState, DecoderState, fresh_decoder}
+use Rattle.vc_defs.specs.Decoder.{ReferenceState, DecoderState, fresh_decoder, kept_bytes}
 use Rattle.vc_model.specs.Formats.{FormatPair}
 use Rattle.vc_model.specs.Coder.{CodecState, no_codec, decoder}
 use Rattle.vc_model.specs.Context.{Context, Running}
@@ -17,6 +17,7 @@ use Rattle.vc_geom.specs.Pairs.{CanStand}
 use Rattle.vc_pair.specs.declared.Phase.{Phase}
 use Rattle.vc_pair.specs.declared.Phase.TheVariants.{Run, Owe, Last, Stopped}
 use Rattle.vc_pair.specs.Pairs.{PairState, raises_end, is_due}
+use Rattle.vc_work.specs.Streams.{IsInStep}
 use Rattle.vc_context.specs.Contexts.{has_work}
 use Rattle.vc_dec.specs.declared.Dest.{Dest}
 use Rattle.vc_dec.specs.declared.InJob.{InJob}
@@ -66,6 +67,15 @@ abbrev pub IsPictureOf : Option Geometry → Option ReferenceState → Type 0
 IsPictureOf geometry None = Unit {0}
 IsPictureOf geometry (Some r) = geometry ≡ Some r.geometry
 
+-- While no job has them, the picture and the bytes that are kept belong together, and to the geometry.
+abbrev pub IsOfStream : ℕ → Option Geometry → DecoderState → Option InJob → Type 0
+IsOfStream limit geometry state None = IsInStep limit geometry state.reference (kept_bytes state)
+IsOfStream limit geometry state (Some job) = Unit {0}
+
+-- no more bytes of a buffer were consumed than are used
+abbrev pub AreBegun : List Buffer → Type 0
+AreBegun bs = list_all (λ b. nat_le b.cursor b.used) bs ≡ true
+
 -- no buffer, or the one with the index and the length
 abbrev pub IsDestOf : Option Dest → List Buffer → Type 0
 IsDestOf None bs = bs ≡ []
@@ -102,13 +112,15 @@ abbrev pub AreServed : List ℕ → QueueState → Type 0
 AreServed rooms cap = AllLengths (serves rooms) cap
 
 -- What every decoder context keeps: its formats can stand and are those of its geometry, as is the picture of the
--- reference; nothing is kept while OUTPUT has no buffers; and what a run needs is there.
+-- reference; what is kept is of one stream, and nothing while OUTPUT has no buffers; and what a run needs is there.
 pub record IsDecoder (formats : FormatPair) (geometry : Option Geometry) (p : PairState) (events : EventState) (parts : CodecParts) (job : Option InJob) : Type 0 where
   pub stands : CanStand Dec formats
   pub sized : HasGeometry Dec formats geometry
   pub placed : IsPlaced (decoder_state formats geometry p events parts.state job)
   pub picture : IsPictureOf geometry parts.state.reference
   pub fresh : buffer_count p.out ≡ 0 → parts.state ≡ fresh_decoder
+  pub stream : IsOfStream formats.out.size geometry parts.state job
+  pub begun : AreBegun p.out.ready
   pub knows : KnowsItsJob p job
   pub supplied : IsSupplied formats.out.size p.out parts.limit job
   pub served : AreServed (lent_room job ++ parts.rooms) p.cap

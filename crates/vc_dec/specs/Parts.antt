@@ -7,17 +7,8 @@ use Rattle.vc_defs.specs.Encoder.{fresh_encoder}
 use Rattle.vc_defs.specs.Finds.{KeptBytes, nothing_kept}
 use Rattle.vc_resync.specs.Assembling.{AssemblyState, fresh_assembly}
 use Rattle.vc_work.specs.References.{CodecReference, HasRoomFor}
+use Rattle.vc_work.specs.Streams.{decoder_of, picture_of, kept_of}
 use Rattle.vc_dec.specs.Decoders.{CodecParts}
-
--- the picture of a reference, where it has one
-abbrev pub picture_of : Option CodecReference → Option ReferenceState
-picture_of None = None
-picture_of (Some r) = r.state.reference
-
--- the bytes that an assembly keeps
-abbrev pub kept_of : Option AssemblyState → KeptBytes
-kept_of None = nothing_kept
-kept_of (Some a) = a.kept
 
 abbrev pub limit_of : Option AssemblyState → Option ℕ
 limit_of assembly = option_map (λ (a : AssemblyState). a.limit) assembly
@@ -27,16 +18,11 @@ abbrev pub room_of : Option CodecReference → List ℕ
 room_of None = []
 room_of (Some r) = r.size ∷ []
 
--- the state of a decoder with this picture and these bytes
-abbrev pub state_of : Option ReferenceState → KeptBytes → DecoderState
-state_of picture kept =
-    record { reference = picture; tail = kept.tail; first_stamp = kept.first_stamp; last_stamps = kept.last_stamps }
-
 -- The picture is in the present reference. The other ones serve buffers of other lengths.
 abbrev pub parts_of : Option AssemblyState → Option CodecReference → List CodecReference → CodecParts
 parts_of assembly present others =
     record {
-      state = state_of (picture_of present) (kept_of assembly);
+      state = decoder_of (picture_of present) (kept_of assembly);
       limit = limit_of assembly;
       rooms = room_of present ++ map (λ (r : CodecReference). r.size) others;
     }
