@@ -4,8 +4,9 @@ ghost use Rattle.std.specs.Prelude.{◌≡◌, ◌==◌, None, [], IfOk, is_ok, 
 ghost use Rattle.std.specs.List.{list_any};
 ghost use Rattle.vc_defs.specs.Decoder.{fresh_decoder};
 ghost use Rattle.vc_defs.specs.Finds.{nothing_kept};
+ghost use Rattle.vc_work.specs.Streams.{kept_of};
 ghost use Rattle.vc_dec.specs.Decoders.{serves};
-ghost use Rattle.vc_dec.specs.Parts.{begun, room_of, kept_of, limit_of, supplied_with, rooms_after, rooms_with, CanTakeOver, new_assembly, new_reference};
+ghost use Rattle.vc_dec.specs.Parts.{begun, room_of, limit_of, supplied_with, rooms_after, rooms_with, CanTakeOver, new_assembly, new_reference};
 
 use std::alloc::Global;
 use std::marker::Model;
