@@ -190,6 +190,7 @@ claim_made p sizes worker ticket log core core' job was over seat idle t is give
         };
         is_of = g.is_of;
         had = ap (λ x. job_of x worker) now ∙ took.has;
+        given = ap (λ x. worker_job x worker) now ∙ job_there;
       };
     }
 

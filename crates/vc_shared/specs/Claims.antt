@@ -13,12 +13,13 @@ use Rattle.vc_shared.specs.Workers.{WorkerState, slot_had, job_had}
 
 -- The claim is one more entry of the history. The job is the one that the device gives there, with its data, and the worker has
 -- it now.
-pub record ClaimsJob (old new : WorkerState) (given : Job) : Type 0 where
+pub record ClaimsJob (old new : WorkerState) (claimed_job : Job) : Type 0 where
   pub slot : ℕ
   pub job : JobData
   pub claimed : IsClaimed the_coder old.device.slots old.worker old.seat new.seat slot job
-  pub is_of : IsJobOf slot job given
+  pub is_of : IsJobOf slot job claimed_job
   pub had : slot_had new ≡ Some slot
+  pub given : job_had new ≡ Some job
 
 -- The claim is no entry: the job list, as the seat has seen it now, is empty. The device is shut then, or it isn't.
 pub record ClaimsNone (old new : WorkerState) (shut : Bool) : Type 0 where
