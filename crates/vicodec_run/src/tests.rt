@@ -1,6 +1,8 @@
 //! Scripts through `top`, with sources and sinks in memory.
 
+mod copying;
 mod encoders;
+mod faults;
 
 use std::alloc::Global;
 use std::test::Fail;
@@ -11,13 +13,13 @@ use vc_fault::FailingEngine;
 use vc_io::{MemSink, MemSource};
 use vc_top::{Status, top};
 
-/// What fails at its first call.
+/// What fails: nothing, the first read, the first write, or one run of the engine, counted from 0.
 #[derive(Clone, Copy, PartialEq, Eq)]
 enum Failing {
     Nothing,
     Source,
     Sink,
-    Engine,
+    Engine { run: u64 },
 }
 
 /// The numbers of the calls that fail: the first, or none.
@@ -67,9 +69,11 @@ fn run(
             return Err(NoMemory);
         };
     }
-    if fails == Failing::Engine {
-        let engine = FailingEngine::make(failing_calls(alloc, true)?, PlainEngine::new());
-        let Ok(engine) = Box::new(alloc, engine) else {
+    if let Failing::Engine { run } = fails {
+        let Ok(runs) = vec![in alloc; run] else {
+            return Err(NoMemory);
+        };
+        let Ok(engine) = Box::new(alloc, FailingEngine::make(runs, PlainEngine::new())) else {
             return Err(NoMemory);
         };
         engines[0] = engine;
@@ -109,7 +113,7 @@ const AFTER_READY: [(&str, &str, Failing, Status); 3] = [
     (
         "run 0\n0 dq cap\n0 dq out\n",
         "0 claim\n0 finish fault\n0 dq ok 0 0 40 0 7 -\n0 dq ok 0 2 40 0 7 -\n",
-        Failing::Engine,
+        Failing::Engine { run: 0 },
         Status::EngineFault,
     ),
 ];

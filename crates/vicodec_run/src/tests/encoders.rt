@@ -54,7 +54,7 @@ const CODED: [(&str, &str, Failing, Status); 4] = [
     (
         "0 q out 0 5 80*256\n0 q cap 0\nrun 0\n0 dq cap\n0 dq out\n0 q out 0 6 80*256\n0 q cap 0\nrun 0\n0 dq cap\n",
         "0 q ok\n0 q ok\n0 claim\n0 finish fault\n0 dq ok 0 0 40 0 5 -\n0 dq ok 0 256 40 0 5 -\n0 q ok\n0 q ok\n0 claim\n0 finish encoded\n0 dq ok 0 48 8 1 6 4f4f4f4fffffffff0000000400000010000000100008040000000000000000000000000000000000000000040006000f\n",
-        Failing::Engine,
+        Failing::Engine { run: 0 },
         Status::EngineFault,
     ),
 ];
