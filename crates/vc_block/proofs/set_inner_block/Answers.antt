@@ -1,26 +1,25 @@
 use Rattle.std.proofs.Common.{◌≡◌, ◌∙◌, ap, refl, ◌+◌, ◌*◌, ◌/◌, ◌%◌, ◌<◌, get_or, arith}
-use Rattle.std.proofs.lemmas.List.{length-set}
 use Rattle.vc_defs.specs.Planes.{blocks_across}
-use Rattle.vc_block.proofs.Placing.{written_more, kept_more}
+use Rattle.vc_block.proofs.Placing.{row_written, row_kept}
 use Rattle.vc_block.proofs.set_inner_block.Goals as goal
 
-pub loop-k-preserved : goal.loop-k-preserved
-loop-k-preserved c =
-    let column : c.corner_of-left.result.left + c.loop-k.k % 8 ≡ 8 * (c.args.number % blocks_across c.args.width) + c.loop-k.k % 8 = ap (λ a. a + c.loop-k.k % 8) c.corner_of-left.ensures.left in
-    let row : c.corner_of-left.result.top + c.loop-k.k / 8 ≡ 8 * (c.args.number / blocks_across c.args.width) + c.loop-k.k / 8 = ap (λ a. a + c.loop-k.k / 8) c.corner_of-left.ensures.top in
-    let in_column : c.corner_of-left.result.left + c.loop-k.k % 8 < c.args.width = omega (arith, column, c.requires.inside.0) in
-    let in_row : c.corner_of-left.result.top + c.loop-k.k / 8 < c.args.height = omega (arith, row, c.requires.inside.1) in
+pub loop-row-preserved : goal.loop-row-preserved
+loop-row-preserved c =
+    let left : c.corner_of-left.result.left ≡ 8 * (c.args.number % blocks_across c.args.width) = c.corner_of-left.ensures.left in
+    let top : c.corner_of-left.result.top ≡ 8 * (c.args.number / blocks_across c.args.width) = c.corner_of-left.ensures.top in
+    let at : (c.corner_of-left.result.top + c.loop-row.row) * c.args.width + c.corner_of-left.result.left ≡ (8 * (c.args.number / blocks_across c.args.width) + c.loop-row.row) * c.args.width + 8 * (c.args.number % blocks_across c.args.width) =
+    ap (λ t. (t + c.loop-row.row) * c.args.width + c.corner_of-left.result.left) top ∙ ap (λ l. (8 * (c.args.number / blocks_across c.args.width) + c.loop-row.row) * c.args.width + l) left in
     record {
-      size = length-set c.loop-k.plane _ _ ∙ c.loop-k.invariant.size;
-      written = written_more c.loop-k.plane c.args.block.now c.args.width c.args.height c.args.number c.loop-k.k (c.corner_of-left.result.left + c.loop-k.k % 8) (c.corner_of-left.result.top + c.loop-k.k / 8) (get_or c.args.block.now c.loop-k.k 0)
-          c.requires.some.0 c.loop-k.invariant.size in_column in_row c.loop-k-test.true column row refl c.loop-k.invariant.written;
-      kept = kept_more c.loop-k.plane c.args.plane.now c.args.width c.args.number c.loop-k.k (c.corner_of-left.result.left + c.loop-k.k % 8) (c.corner_of-left.result.top + c.loop-k.k / 8) (get_or c.args.block.now c.loop-k.k 0)
-          in_column c.loop-k-test.true column row c.loop-k.invariant.kept;
+      size = c.copy_row.auto.to ∙ c.loop-row.invariant.size;
+      written = row_written c.loop-row.plane c.copy_row.new.to c.args.block.now c.args.width c.args.height c.args.number c.loop-row.row ((c.corner_of-left.result.top + c.loop-row.row) * c.args.width + c.corner_of-left.result.left)
+          c.requires.some.0 c.requires.inside.0 c.loop-row-test.true at c.copy_row.ensures.copied c.copy_row.ensures.before c.copy_row.ensures.behind c.loop-row.invariant.written;
+      kept = row_kept c.loop-row.plane c.copy_row.new.to c.args.plane.now c.args.width c.args.number c.loop-row.row ((c.corner_of-left.result.top + c.loop-row.row) * c.args.width + c.corner_of-left.result.left)
+          c.requires.inside.0 c.loop-row-test.true at c.copy_row.ensures.before c.copy_row.ensures.behind c.loop-row.invariant.kept;
     }
 
 pub returns : goal.returns
 returns c = record {
-  size = c.loop-k.invariant.size;
-  written = λ j h b. c.loop-k.invariant.written j h b (omega arith);
-  kept = c.loop-k.invariant.kept;
+  size = c.loop-row.invariant.size;
+  written = λ j h b. c.loop-row.invariant.written j h b (omega arith);
+  kept = c.loop-row.invariant.kept;
 }
