@@ -25,6 +25,13 @@ geometry_behind (Damaged stamp) present = present
 geometry_behind (Changed geometry) present = Some geometry
 geometry_behind Spent present = present
 
+-- headers alone were looked at: no picture, and no damaged frame
+abbrev pub IsOfHeaders : Decoded → Type 0
+IsOfHeaders (Picture used key stamp) = ⊥
+IsOfHeaders (Damaged stamp) = ⊥
+IsOfHeaders (Changed geometry) = Unit {0}
+IsOfHeaders Spent = Unit {0}
+
 -- a geometry that a change brings is legal
 abbrev pub IsLegalChange : Decoded → Type 0
 IsLegalChange (Picture used key stamp) = Unit {0}

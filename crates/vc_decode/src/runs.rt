@@ -6,7 +6,7 @@ ghost use Rattle.vc_defs.specs.Decoder.{decode, step_outcome};
 ghost use Rattle.vc_defs.specs.Laws.{IsRawFormat};
 ghost use Rattle.vc_work.specs.Runs.{format_geometry};
 ghost use Rattle.vc_frame.specs.Frames.{with_picture};
-ghost use Rattle.vc_decode.specs.Running.{decoder_of, answer_of, shown_in, geometry_behind, IsInStep, IsLegalChange};
+ghost use Rattle.vc_decode.specs.Running.{decoder_of, answer_of, shown_in, geometry_behind, IsInStep, IsOfHeaders, IsLegalChange};
 
 use crate::decoded::Decoded;
 use crate::ending::{ended_at, probed_at};
@@ -72,6 +72,7 @@ pub fn probe_run(assembly: &mut Assembly, source: &[u8], stamp: Stamp) -> (usize
     ensures state { let step = decode (decoder_of None assembly.old.kept) None assembly.old.limit source.now stamp in decoder_of None assembly.new.kept ≡ step.state }
     ensures limit { assembly.new.limit ≡ assembly.old.limit }
     ensures in_step { IsInStep assembly.new.limit (geometry_behind result.1 None) None assembly.new.kept }
+    ensures of_headers { IsOfHeaders result.1 }
     ensures legal { IsLegalChange result.1 }
     ensures inside { result.0 ≤ length source.now }
 {
