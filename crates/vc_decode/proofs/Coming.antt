@@ -13,30 +13,14 @@ use Rattle.vc_defs.specs.Finds.{Find, Head, Ended, KeptBytes, kept_with, FedStep
 use Rattle.vc_defs.specs.Decoder.{FrameResult, ResultKind, Changed, GivenResult, BetweenFrames, ReferenceState, DecoderState, DecodedStep, DecodedResult, spent, outcome_of, step_outcome, geometry_after_kind, geometry_after, decode, is_change, is_passed_over, picture_planes, given_by, given_at_end, given_by_find}
 use Rattle.vc_defs.specs.Laws.{kept_at, state_at, present_at}
 use Rattle.vc_defs.proofs.Parsing.{some_same}
-use Rattle.vc_defs.proofs.Waiting.{begins_fresh}
 use Rattle.vc_resync.specs.Decoding.{RunEnd, run_later, Feeds, used_up, gives, goes_on, InStep, IsRun, EndsInStep}
 use Rattle.vc_resync.proofs.Decoding as resync
 use Rattle.vc_work.specs.References.{CodecReference}
 use Rattle.vc_frame.specs.Frames.{with_picture}
 use Rattle.vc_decode.specs.declared.decoded.Decoded.{Decoded}
 use Rattle.vc_decode.specs.declared.decoded.Decoded.TheVariants.{Spent}
-use Rattle.vc_decode.specs.Running.{decoder_of, answer_of, shown_in, IsInStep, BeginsInStep}
+use Rattle.vc_decode.specs.Running.{decoder_of, answer_of, shown_in, IsInStep}
 use Rattle.vc_decode.specs.Steps.{RunPoint, present_of, ended_by, ended_at}
-
-pub begins_in_step : BeginsInStep
-begins_in_step limit geometry =
-    let b = begins_fresh limit geometry in
-    record {
-      begun = geometry;
-      bytes = [];
-      stamps = [];
-      told = 0;
-      given = 0;
-      long = refl;
-      in_step = resync.begins_in_step limit geometry;
-      keeps = sym b.4;
-      has = refl;
-    }
 
 -- Section: from feeds to a run.
 

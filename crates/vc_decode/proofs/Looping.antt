@@ -10,16 +10,17 @@ use Rattle.vc_base.specs.declared.Fourcc.{Fourcc}
 use Rattle.vc_defs.specs.declared.Geometry.{Geometry}
 use Rattle.vc_defs.specs.Places.{Frame}
 use Rattle.vc_defs.specs.Finds.{Find, Head, Ended, KeptBytes, FedStep, fed}
-use Rattle.vc_defs.specs.Decoder.{GivenResult, BetweenFrames, ReferenceState, outcome_of, outcome_of_result, step_outcome, geometry_after_kind, geometry_after, decode, is_change, given_at_end, given_by_find, FrameResult, ResultKind, Picture, Damaged, Changed, DecodedStep}
+use Rattle.vc_defs.specs.Decoder.{GivenResult, BetweenFrames, ReferenceState, outcome_of, outcome_of_result, step_outcome, geometry_after_kind, geometry_after, decode, is_change, is_passed_over, picture_planes, given_by, given_at_end, given_by_find, FrameResult, ResultKind, Picture, Damaged, Changed, DecodedStep}
 use Rattle.vc_defs.specs.Raw.{grey}
 use Rattle.vc_defs.proofs.Parsing.{some_same}
 use Rattle.vc_work.specs.References.{CodecReference}
 use Rattle.vc_resync.specs.declared.feeding.Found.{Found}
-use Rattle.vc_resync.specs.Assembling.{AssemblyState, found_of, frame_of, assembly_after}
+use Rattle.vc_resync.specs.Assembling.{AssemblyState, found_of, frame_of, assembly_after, IsLegalAnswer}
 use Rattle.vc_resync.specs.Decoding.{RunEnd}
+use Rattle.vc_frame.proofs.DecodedFrames.{legal_parts}
 use Rattle.vc_decode.specs.declared.decoded.Decoded.{Decoded}
 use Rattle.vc_decode.specs.declared.decoded.Decoded.TheVariants.{Spent}
-use Rattle.vc_decode.specs.Running.{decoder_of, answer_of, geometry_behind, IsInStep}
+use Rattle.vc_decode.specs.Running.{decoder_of, answer_of, geometry_behind, IsInStep, IsLegalChange}
 use Rattle.vc_decode.specs.Steps.{RunPoint, present_of, ended_by, ended_at, HasPresent, EndsPresent, probed_by, probed_at}
 use Rattle.vc_decode.proofs.Feeding.{At, at_next, ahead, comes_closer, ends_present, found_present}
 use Rattle.vc_decode.proofs.Coming.{Going, going_next, Comes, end_outcome, comes_none, comes_one, change_of, just_one, Finished, finishes}
@@ -236,3 +237,57 @@ pub step_behind : (limit limit' : ℕ) (fourcc : Fourcc) (step : DecodedStep) (a
 step_behind limit limit' fourcc step answer present reference kept same e i =
     subst (λ (n : ℕ). IsInStep n (geometry_behind answer present) reference kept) (sym same)
     (subst (λ (g : Option Geometry). IsInStep limit g reference kept) (behind_is fourcc step answer present e) i)
+
+-- Section: a change is of a legal geometry.
+
+gives_legal : (limit : ℕ) (find : Find) (now : BetweenFrames) (x : GivenResult) (later : List GivenResult) (fourcc : Fourcc) (stamp : Stamp) → IsLegalAnswer limit (found_of (Some find)) → given_by_find find now ≡ x ∷ later → IsLegalChange (answer_of (outcome_of fourcc x.result.kind stamp))
+gives_legal limit (Head position h) now x later fourcc stamp legal e = by_test (is_change h now.geometry) e
+  where
+    by_test : (b : Bool) → cond b (change_of position h.geometry ∷ []) [] ≡ x ∷ later → IsLegalChange (answer_of (outcome_of fourcc x.result.kind stamp))
+    by_test true e =
+        let is : change_of position h.geometry ≡ x = cc in
+        subst (λ (y : GivenResult). IsLegalChange (answer_of (outcome_of fourcc y.result.kind stamp))) is (legal_parts limit h legal.0).0
+    by_test false e = absurd cc
+gives_legal limit (Ended f) now x later fourcc stamp legal e = by_test (is_passed_over f.header now.reference) e
+  where
+    by_planes : (o : Option (List (List ℕ))) → IsLegalChange (answer_of (outcome_of fourcc (given_by f now o).result.kind stamp))
+    by_planes None = tt
+    by_planes (Some planes) = tt
+
+    by_test : (b : Bool) → cond b [] (given_at_end f now ∷ []) ≡ x ∷ later → IsLegalChange (answer_of (outcome_of fourcc x.result.kind stamp))
+    by_test true e = absurd cc
+    by_test false e =
+        let is : given_at_end f now ≡ x = cc in
+        subst (λ (y : GivenResult). IsLegalChange (answer_of (outcome_of fourcc y.result.kind stamp))) is (by_planes (picture_planes f now))
+
+-- what ends a decoder's run
+pub decode_is_legal : (limit : ℕ) (fourcc : Fourcc) (geometry : Option Geometry) (stamp : Stamp) (source : List ℕ) (taken : ℕ) (kept : KeptBytes) (count : ℕ) (now : CodecReference) (there : List ℕ) (found : Found) (new : AssemblyState) (answer : Option Decoded) (is : Decoded) (after : CodecReference) (shown : List ℕ) →
+    IsLegalAnswer limit found → IsFed limit stamp source taken kept count found new → Points fourcc geometry now there found new answer after shown → answer ≡ Some is → IsLegalChange is
+decode_is_legal limit fourcc geometry stamp source taken kept count now there found new answer is after shown legal f points some =
+    by_told f.step.told (subst (λ (x : Found). IsLegalAnswer limit x) f.found_is legal) (points f.step.told f.step.stamp f.found_is f.told_is)
+  where
+    by_given : (find : Find) (xs : List GivenResult) → IsLegalAnswer limit (found_of (Some find)) → given_by_find find (present_of geometry now.state.reference) ≡ xs → record { answer = answer; reference = after; dest = shown } ≡ ended_by fourcc f.step.stamp now there xs → IsLegalChange is
+    by_given find [] l e p = absurd (none-some is (sym (ap (λ (y : RunPoint). y.answer) p) ∙ some))
+    by_given find (x ∷ later) l e p =
+        subst (λ (d : Decoded). IsLegalChange d) (some_same (answer_of (outcome_of fourcc x.result.kind f.step.stamp)) is (sym (ap (λ (y : RunPoint). y.answer) p) ∙ some))
+        (gives_legal limit find (present_of geometry now.state.reference) x later fourcc f.step.stamp l e)
+
+    by_told : (o : Option Find) → IsLegalAnswer limit (found_of o) → record { answer = answer; reference = after; dest = shown } ≡ ended_at fourcc f.step.stamp geometry now there o → IsLegalChange is
+    by_told None l p = subst (λ (d : Decoded). IsLegalChange d) (some_same Spent is (sym (ap (λ (y : RunPoint). y.answer) p) ∙ some)) tt
+    by_told (Some find) l p = by_given find (given_by_find find (present_of geometry now.state.reference)) l refl p
+
+-- what ends a probe
+pub probe_is_legal : (limit : ℕ) (stamp : Stamp) (source : List ℕ) (taken : ℕ) (kept : KeptBytes) (count : ℕ) (found : Found) (new : AssemblyState) (answer : Option Decoded) (is : Decoded) →
+    IsLegalAnswer limit found → IsFed limit stamp source taken kept count found new → Probes found answer → answer ≡ Some is → IsLegalChange is
+probe_is_legal limit stamp source taken kept count found new answer is legal f probes some =
+    by_told f.step.told (subst (λ (x : Found). IsLegalAnswer limit x) f.found_is legal) (probes f.step.told grey f.step.stamp f.found_is)
+  where
+    by_given : (find : Find) (xs : List GivenResult) → IsLegalAnswer limit (found_of (Some find)) → given_by_find find unknown ≡ xs → answer ≡ probed_by grey f.step.stamp xs → IsLegalChange is
+    by_given find [] l e p = absurd (none-some is (sym p ∙ some))
+    by_given find (x ∷ later) l e p =
+        subst (λ (d : Decoded). IsLegalChange d) (some_same (answer_of (outcome_of grey x.result.kind f.step.stamp)) is (sym p ∙ some))
+        (gives_legal limit find unknown x later grey f.step.stamp l e)
+
+    by_told : (o : Option Find) → IsLegalAnswer limit (found_of o) → answer ≡ probed_at grey f.step.stamp o → IsLegalChange is
+    by_told None l p = subst (λ (d : Decoded). IsLegalChange d) (some_same Spent is (sym p ∙ some)) tt
+    by_told (Some find) l p = by_given find (given_by_find find unknown) l refl p

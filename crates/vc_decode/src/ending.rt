@@ -1,6 +1,6 @@
 //! What an answer of the assembly comes to in a run.
 
-ghost use Rattle.std.specs.Prelude.{◌≡◌, ◌≤◌, ℕ, List, Option, Some, None, length, true};
+ghost use Rattle.std.specs.Prelude.{◌≡◌, ◌≤◌, ℕ, List, Option, Some, None, length, true, IfSome};
 ghost use Rattle.vc_base.specs.declared.Stamp.{Stamp};
 ghost use Rattle.vc_base.specs.declared.Fourcc.{Fourcc};
 ghost use Rattle.vc_defs.specs.Headers.{is_legal, most_bytes};
@@ -12,6 +12,7 @@ ghost use Rattle.vc_work.specs.Runs.{format_geometry};
 ghost use Rattle.vc_frame.specs.Frames.{with_picture};
 ghost use Rattle.vc_resync.specs.Assembling.{found_of, frame_of, IsToldBy, IsLegalAnswer};
 ghost use Rattle.vc_decode.specs.Steps.{RunPoint, present_of, ended_by, ended_at, HasPresent, EndsPresent, probed_at};
+ghost use Rattle.vc_decode.specs.Running.{IsOfHeaders};
 
 use crate::decoded::Decoded;
 use vc_base::{Format, Stamp};
@@ -149,7 +150,8 @@ pub(crate) fn ended_at<T: Transform>(
 /// without a geometry each I frame's header changes it.
 pub(crate) fn probed_at(found: &Found) -> Option<Decoded>
     requires present { EndsPresent None found.now }
-    ensures { (told : Option Find) (fourcc : Fourcc) (first : Stamp) → found.now ≡ found_of told → result ≡ probed_at fourcc first told }
+    ensures answer { (told : Option Find) (fourcc : Fourcc) (first : Stamp) → found.now ≡ found_of told → result ≡ probed_at fourcc first told }
+    ensures of_headers { IfSome result IsOfHeaders }
 {
     match found {
         Found::More => Some(Decoded::Spent),

@@ -7,7 +7,6 @@
 
 mod decoded;
 mod ending;
-pub mod laws;
 mod runs;
 
 pub use decoded::Decoded;

@@ -6,7 +6,7 @@ ghost use Rattle.vc_defs.specs.Decoder.{decode, step_outcome};
 ghost use Rattle.vc_defs.specs.Laws.{IsRawFormat};
 ghost use Rattle.vc_work.specs.Runs.{format_geometry};
 ghost use Rattle.vc_frame.specs.Frames.{with_picture};
-ghost use Rattle.vc_decode.specs.Running.{decoder_of, answer_of, shown_in, geometry_behind, IsInStep};
+ghost use Rattle.vc_decode.specs.Running.{decoder_of, answer_of, shown_in, geometry_behind, IsInStep, IsOfHeaders, IsLegalChange};
 
 use crate::decoded::Decoded;
 use crate::ending::{ended_at, probed_at};
@@ -20,8 +20,8 @@ use vc_work::Reference;
 /// many bytes it consumed, and the result; the bytes of a picture are then at the front of the destination, in the raw
 /// format.
 ///
-/// Assembly, reference and geometry are those of one stream, as [`begins_in_step`](crate::laws::begins_in_step) and the
-/// runs before left them. The format is a raw one of the geometry, and both the reference and the destination have room
+/// Assembly, reference and geometry are those of one stream, as
+/// [`begins_in_step`](vc_work::laws::begins_in_step) and the runs before left them. The format is a raw one of the geometry, and both the reference and the destination have room
 /// for a picture of it. After a change of geometry the reference has no picture; the next run is of the new geometry.
 pub fn decode_run<T: Transform>(
     t: &T,
@@ -45,6 +45,7 @@ pub fn decode_run<T: Transform>(
     ensures picture { let step = decode (decoder_of reference.old.state.reference assembly.old.kept) (Some geometry.now) assembly.old.limit source.now stamp in reference.new ≡ with_picture step.state.reference reference.old }
     ensures limit { assembly.new.limit ≡ assembly.old.limit }
     ensures in_step { IsInStep assembly.new.limit (geometry_behind result.1 (Some geometry.now)) reference.new.state.reference assembly.new.kept }
+    ensures legal { IsLegalChange result.1 }
     ensures inside { result.0 ≤ length source.now }
 {
     let mut taken = 0;
@@ -62,8 +63,8 @@ pub fn decode_run<T: Transform>(
 /// geometry it tells. Gives how many bytes it consumed, and what it came to: a change of geometry, or that the bytes
 /// were spent.
 ///
-/// The assembly is that of a stream whose geometry is not known, as [`begins_in_step`](crate::laws::begins_in_step) and
-/// the probes before left it.
+/// The assembly is that of a stream whose geometry is not known, as
+/// [`begins_in_step`](vc_work::laws::begins_in_step) and the probes before left it.
 pub fn probe_run(assembly: &mut Assembly, source: &[u8], stamp: Stamp) -> (usize, Decoded)
     requires in_step { IsInStep assembly.old.limit None None assembly.old.kept }
     ensures consumed { let step = decode (decoder_of None assembly.old.kept) None assembly.old.limit source.now stamp in result.0 ≡ step.moved }
@@ -71,6 +72,8 @@ pub fn probe_run(assembly: &mut Assembly, source: &[u8], stamp: Stamp) -> (usize
     ensures state { let step = decode (decoder_of None assembly.old.kept) None assembly.old.limit source.now stamp in decoder_of None assembly.new.kept ≡ step.state }
     ensures limit { assembly.new.limit ≡ assembly.old.limit }
     ensures in_step { IsInStep assembly.new.limit (geometry_behind result.1 None) None assembly.new.kept }
+    ensures of_headers { IsOfHeaders result.1 }
+    ensures legal { IsLegalChange result.1 }
     ensures inside { result.0 ≤ length source.now }
 {
     let mut taken = 0;

@@ -2,11 +2,10 @@ use Rattle.std.proofs.Common.{◌∙◌, ap, refl, arith, Some}
 use Rattle.vc_resync.specs.Assembling.{AssemblyState}
 use Rattle.vc_decode.proofs.Feeding.{at_first}
 use Rattle.vc_decode.proofs.Coming.{going_first}
-use Rattle.vc_defs.specs.Raw.{grey}
 use Rattle.vc_defs.specs.Decoder.{decode}
 use Rattle.vc_decode.specs.Running.{decoder_of}
 use Rattle.vc_decode.specs.Steps.{present_of}
-use Rattle.vc_decode.proofs.Looping.{step_behind, is_fed, fed_present, decode_finishes, decode_goes_on}
+use Rattle.vc_decode.proofs.Looping.{step_behind, is_fed, fed_present, decode_finishes, decode_goes_on, decode_is_legal}
 use Rattle.vc_decode.proofs.runs.decode_run.Goals as goal
 
 pub loop-decoded-init : goal.loop-decoded-init
@@ -69,6 +68,13 @@ returns-in-Some-clause-in_step g c =
     (decode (decoder_of c.args.reference.now.state.reference c.args.assembly.now.kept) (Some c.args.geometry.now) c.args.assembly.now.limit c.args.source.now c.args.stamp)
     c.in-Some.decoded (Some c.args.geometry.now) c.ended_at.new.reference.state.reference c.feed-count.new.assembly.kept
     (ap (λ (a : AssemblyState). a.limit) c.feed-count.ensures.after ∙ c.loop-decoded.invariant.limit) f.answers f.in_step
+
+pub returns-in-Some-clause-legal : goal.returns-in-Some-clause-legal
+returns-in-Some-clause-legal g c =
+    decode_is_legal c.loop-decoded.assembly.limit c.args.format.now.fourcc (Some c.args.geometry.now) c.args.stamp c.args.source.now c.loop-decoded.taken c.loop-decoded.assembly.kept c.feed-count.result.0 c.loop-decoded.reference c.loop-decoded.dest c.feed-count.result.1 c.feed-count.new.assembly c.ended_at.result c.in-Some.decoded c.ended_at.new.reference c.ended_at.new.dest
+    c.feed-count.ensures.legal
+    (is_fed c.loop-decoded.assembly.limit c.args.stamp c.args.source.now c.loop-decoded.taken c.loop-decoded.assembly c.feed-count.new.assembly c.feed-count.result.0 c.feed-count.result.1 refl c.loop-decoded.invariant.inside c.feed-count.ensures.taken c.feed-count.ensures.found c.feed-count.ensures.after c.feed-count.ensures.inside)
+    c.ended_at.ensures c.in-Some.is
 
 pub loop-decoded-smaller : goal.loop-decoded-smaller
 loop-decoded-smaller g c =

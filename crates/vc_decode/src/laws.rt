@@ -1,9 +1,0 @@
-//! Laws of runs, proved from the definitions alone.
-
-ghost use Rattle.vc_decode.specs.Running.{BeginsInStep};
-
-/// An assembly that keeps nothing, a reference without a picture and any geometry or none are in step: so a decoder may
-/// begin.
-pub fn begins_in_step()
-    ensures { BeginsInStep }
-{}
