@@ -1,5 +1,5 @@
 -- The work of an encoder's job (docs/DEVICE.md, "Runs"; "Encoding" of the stateful encoder).
-use Rattle.std.specs.Prelude.{◌≡◌, ◌≤◌, ◌+◌, vec_len, length, true, false, if◌then◌else◌, Option, Some, None, Result, Ok, Err}
+use Rattle.std.specs.Prelude.{◌≡◌, ◌≤◌, ◌+◌, vec_len, length, true, false, if◌then◌else◌, Option, Some, None, Result, Ok}
 use Rattle.vc_base.specs.declared.Format.{Format}
 use Rattle.vc_base.specs.Buffers.{keyframe_flag, pframe_flag, error_flag}
 use Rattle.vc_defs.specs.Bodies.{padded_sum}
