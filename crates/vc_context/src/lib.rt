@@ -6,7 +6,6 @@
 #![tactic(auto)]
 
 pub mod jobs;
-pub mod laws;
 pub mod refusals;
 pub mod replies;
 #[cfg(test)]
