@@ -151,3 +151,43 @@ fn streaming_off_ends_a_stop(rt: HostRuntime) -> Result<(), Fail> {
     }
     Ok(())
 }
+
+/// The phase, and what STOP answers, after a drain began with a buffer left, a change stopped it or not, and a queue
+/// was restarted.
+fn after_restart(
+    rt: &impl Abort,
+    alloc: Global,
+    by_change: bool,
+    side: Side,
+) -> (Phase, Result<(), Errno>) {
+    let mut hold = Hold::new();
+    let mut pair = streaming(rt, alloc, &mut hold);
+    queue(rt, &mut pair, Side::Out, 0, &mut hold);
+    assert_eq!(rt; pair.stop(), Ok(()));
+    assert!(rt; !pair.queue(Side::Out).is_lent() && !pair.queue(Side::Cap).is_lent());
+    if by_change {
+        pair.change();
+    }
+    assert!(rt; !settle(rt, &mut pair, &hold));
+    assert_eq!(rt; pair.stop(), Err(Errno::Busy));
+    assert!(rt; !pair.queue(Side::Out).is_lent() && !pair.queue(Side::Cap).is_lent());
+    pair.streamoff(side, &mut hold);
+    assert_eq!(rt; pair.streamon(side, 4), Ok(()));
+    (pair.phase(), pair.stop())
+}
+
+#[test]
+fn restarting_a_queue_gives_a_drain_up(rt: HostRuntime) -> Result<(), Fail> {
+    for (by_change, side, phase, answer) in [
+        (false, Side::Out, Phase::Run, Ok(())),
+        (false, Side::Cap, Phase::Run, Ok(())),
+        (true, Side::Out, Phase::Owe, Ok(())),
+        (true, Side::Cap, Phase::Run, Err(Errno::Busy)),
+    ] {
+        assert_eq!(rt;
+            after_restart(&rt, rt.alloc(), by_change, side),
+            (phase, answer)
+        );
+    }
+    Ok(())
+}
