@@ -8,6 +8,8 @@
 mod decoded;
 mod ending;
 mod runs;
+#[cfg(test)]
+mod tests;
 
 pub use decoded::Decoded;
 pub use runs::{decode_run, probe_run};

@@ -1,6 +1,6 @@
 //! Engines that do each run on the caller's thread, by the definitions and nothing else, and never fail.
 //!
-//! They differ in the transform alone, so all of them give the same bytes. So far there are copy runs and encode runs.
+//! They differ in the transform alone, so all of them give the same bytes.
 #![tactic(auto)]
 
 mod fast;

@@ -2,9 +2,11 @@
 
 ghost use Rattle.std.specs.Prelude.{◌≡◌, ◌≤◌, ◌++◌, length, take, drop};
 ghost use Rattle.vc_work.specs.declared.engine.Outcome.TheVariants.{Copied, Encoded};
-ghost use Rattle.vc_work.specs.declared.work.Sort.TheVariants.{Copy, Encode};
+ghost use Rattle.vc_work.specs.declared.work.Sort.TheVariants.{Copy, Encode, Probe, Decode};
 ghost use Rattle.vc_work.specs.Runs.{Fits, IsRun, KeepsLengths};
+ghost use Rattle.vc_engine.specs.Telling.{outcome_of};
 
+use vc_decode::{Decoded, decode_run, probe_run};
 use vc_frame::encode_frame;
 use vc_fwht::Transform;
 use vc_work::{Outcome, Sort, Work};
@@ -52,6 +54,70 @@ fn run_encode<T: Transform>(t: &T, work: &mut Work) -> (u32, bool)
     (used as u32, key)
 }
 
+/// What a run over the bytes of a stream came to, as the outcome of its job.
+fn outcome_of(decoded: Decoded) -> Outcome
+    ensures { result ≡ outcome_of decoded }
+{
+    match decoded {
+        Decoded::Picture { used, key, stamp } => Outcome::Picture { used, key, stamp },
+        Decoded::Damaged { stamp } => Outcome::Damaged { stamp },
+        Decoded::Changed { geometry } => Outcome::Changed { geometry },
+        Decoded::Spent => Outcome::Spent,
+    }
+}
+
+/// A probe.
+fn run_probe(work: &mut Work) -> Outcome
+    requires fits { Fits work.old }
+    requires sort { work.old.sort ≡ Probe }
+    ensures run { IsRun work.old work.new result }
+    ensures lengths { KeepsLengths work.old work.new }
+{
+    let Some(assembly) = &mut work.assembly else {
+        unreachable!()
+    };
+    let source = &mut work.source;
+    let fresh = &source.payload[source.cursor as usize..source.used as usize];
+    let (count, decoded) = probe_run(assembly, fresh, source.stamp);
+    source.cursor += count as u32;
+    outcome_of(decoded)
+}
+
+/// A decode run.
+fn run_decode<T: Transform>(t: &T, work: &mut Work) -> Outcome
+    requires fits { Fits work.old }
+    requires sort { work.old.sort ≡ Decode }
+    ensures run { IsRun work.old work.new result }
+    ensures lengths { KeepsLengths work.old work.new }
+{
+    let Some(dest) = &mut work.dest else {
+        unreachable!()
+    };
+    let Some(reference) = &mut work.reference else {
+        unreachable!()
+    };
+    let Some(assembly) = &mut work.assembly else {
+        unreachable!()
+    };
+    let Some(geometry) = &work.geometry else {
+        unreachable!()
+    };
+    let source = &mut work.source;
+    let fresh = &source.payload[source.cursor as usize..source.used as usize];
+    let (count, decoded) = decode_run(
+        t,
+        assembly,
+        reference,
+        geometry,
+        fresh,
+        source.stamp,
+        &work.format,
+        dest,
+    );
+    source.cursor += count as u32;
+    outcome_of(decoded)
+}
+
 /// Does the run with a transform.
 pub fn run_with<T: Transform>(t: &T, work: &mut Work) -> Outcome
     requires fits { Fits work.old }
@@ -67,5 +133,7 @@ pub fn run_with<T: Transform>(t: &T, work: &mut Work) -> Outcome
             let (used, key) = run_encode(t, work);
             Outcome::Encoded { used, key }
         },
+        Sort::Probe => run_probe(work),
+        Sort::Decode => run_decode(t, work),
     }
 }

@@ -62,6 +62,7 @@ fn no_bytes(alloc: Global) -> Work
         dest: Some(Vec::new(alloc)),
         reference: None,
         geometry: None,
+        assembly: None,
         format: Format {
             fourcc: Fourcc(*b"DATA"),
             width: 0,
