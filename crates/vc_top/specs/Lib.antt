@@ -4,6 +4,7 @@ pub mod Desks
 pub mod Does
 pub mod Ends
 pub mod Input
+pub mod Makes
 pub mod Slots
 pub mod Steps
 pub mod Words

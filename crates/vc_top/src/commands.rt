@@ -1,17 +1,20 @@
 //! The commands, over the words of the command line.
 
-ghost use Rattle.std.specs.Prelude.{◌≡◌, ◌≢◌, ◌<◌, ◌≤◌, ◌↔◌, None, IfSome, map, string_bytes, vec_len, slice_get, drop};
+ghost use Rattle.std.specs.Prelude.{◌≡◌, ◌≢◌, ◌<◌, ◌≤◌, ◌↔◌, ◌⊎◌, None, IfSome, map, string_bytes, vec_len, slice_get, drop};
 ghost use Rattle.vc_base.specs.Counts.{Rose};
 ghost use Rattle.vc_top.specs.Ends.{ScriptEnds, Completes};
-ghost use Rattle.vc_top.specs.Words.{script_slots};
+ghost use Rattle.vc_top.specs.Makes.{MakeEnds};
+ghost use Rattle.vc_top.specs.Words.{asked_command, OnScript, OnMake};
+ghost use Rattle.vc_words.specs.Ranges.{IsMake};
 
 use crate::input::{ReadStop, read_script};
 use crate::script::run_lines;
 use crate::status::Status;
-use crate::words::slots_of_words;
 use std::alloc::Global;
 use vc_core::Engine;
 use vc_io::{Sink, Source};
+use vc_make::{MakeStop, write_pictures};
+use vc_words::{Command, MakeOptions, read_words};
 
 // Reads a script whole and carries out its lines on any engine.
 fn script_on<S: Source, K: Sink, E: Engine>(
@@ -56,6 +59,24 @@ pub fn script_run<S: Source, K: Sink>(
     script_on(alloc, slots, source, sink, engine)
 }
 
+/// Writes the pictures of the generator that the options ask for.
+fn make_run<K: Sink>(alloc: Global, options: &MakeOptions, sink: &mut K) -> Status
+    requires { IsMake options.now }
+    ensures end { MakeEnds options.now (K.written sink.old) (K.written sink.new) result }
+    ensures write { result ≡ Status.WriteFault → Rose (K.faults sink.old) (K.faults sink.new) }
+{
+    let MakeOptions {
+        format,
+        pictures,
+        number,
+    } = *options;
+    match write_pictures(alloc, &format, pictures, number, sink) {
+        Ok(()) => Status::Fine,
+        Err(MakeStop::WriteFault) => Status::WriteFault,
+        Err(MakeStop::NoMemory) => Status::NoMemory,
+    }
+}
+
 /// Does all that the program does, on the words behind its name.
 pub fn top<S: Source, K: Sink>(
     alloc: Global,
@@ -65,18 +86,26 @@ pub fn top<S: Source, K: Sink>(
     engines: &mut Vec<Box<dyn Engine + Send>>,
 ) -> Status
     requires { vec_len engines.old ≡ 16 }
-    ensures usage { (result ≡ Status.Usage) ↔ (script_slots (map (λ w. string_bytes w) words.now) ≡ None) }
-    ensures untouched { script_slots (map (λ w. string_bytes w) words.now) ≡ None → (source.new ≡ source.old) × (sink.new ≡ sink.old) × (engines.new ≡ engines.old) }
-    ensures script { IfSome (script_slots (map (λ w. string_bytes w) words.now)) (λ slots. IfSome (S.left source.old) (λ input. IfSome (slice_get engines.old.items 0) (λ before. IfSome (slice_get engines.new.items 0) (λ now. ScriptEnds slots input (S.left source.new) (K.written sink.old) (K.written sink.new) (record { runs = ⟦<Box<dyn Engine + Send> as Engine>⟧.run_count before; faults = ⟦<Box<dyn Engine + Send> as Engine>⟧.fault_count before }) (record { runs = ⟦<Box<dyn Engine + Send> as Engine>⟧.run_count now; faults = ⟦<Box<dyn Engine + Send> as Engine>⟧.fault_count now }) result)))) }
+
+    // The words of a command that is not built yet are no usage either.
+    ensures usage { (result ≡ Status.Usage) ↔ (asked_command (map (λ w. string_bytes w) words.now) ≡ None) }
+    ensures untouched { asked_command (map (λ w. string_bytes w) words.now) ≡ None → (source.new ≡ source.old) × (sink.new ≡ sink.old) × (engines.new ≡ engines.old) }
+    ensures script { OnScript (asked_command (map (λ w. string_bytes w) words.now)) (λ slots. IfSome (S.left source.old) (λ input. IfSome (slice_get engines.old.items 0) (λ before. IfSome (slice_get engines.new.items 0) (λ now. ScriptEnds slots input (S.left source.new) (K.written sink.old) (K.written sink.new) (record { runs = ⟦<Box<dyn Engine + Send> as Engine>⟧.run_count before; faults = ⟦<Box<dyn Engine + Send> as Engine>⟧.fault_count before }) (record { runs = ⟦<Box<dyn Engine + Send> as Engine>⟧.run_count now; faults = ⟦<Box<dyn Engine + Send> as Engine>⟧.fault_count now }) result)))) }
+    ensures make { OnMake (asked_command (map (λ w. string_bytes w) words.now)) (λ options. MakeEnds options (K.written sink.old) (K.written sink.new) result) }
+    ensures make_reads_nothing { OnMake (asked_command (map (λ w. string_bytes w) words.now)) (λ _. (source.new ≡ source.old) × (engines.new ≡ engines.old)) }
     ensures read { result ≡ Status.ReadFault → Rose (S.faults source.old) (S.faults source.new) }
     ensures write { result ≡ Status.WriteFault → Rose (K.faults sink.old) (K.faults sink.new) }
     ensures engine { result ≡ Status.EngineFault → IfSome (slice_get engines.old.items 0) (λ before. IfSome (slice_get engines.new.items 0) (λ now. Rose (⟦<Box<dyn Engine + Send> as Engine>⟧.fault_count before) (⟦<Box<dyn Engine + Send> as Engine>⟧.fault_count now))) }
-    ensures complete { IfSome (script_slots (map (λ w. string_bytes w) words.now)) (λ slots. IfSome (S.left source.old) (λ input. IfSome (slice_get engines.old.items 0) (λ before. IfSome (slice_get engines.new.items 0) (λ now. Completes slots input (S.faults source.old) (S.faults source.new) (K.faults sink.old) (K.faults sink.new) (⟦<Box<dyn Engine + Send> as Engine>⟧.fault_count before) (⟦<Box<dyn Engine + Send> as Engine>⟧.fault_count now) result)))) }
+    ensures complete { OnScript (asked_command (map (λ w. string_bytes w) words.now)) (λ slots. IfSome (S.left source.old) (λ input. IfSome (slice_get engines.old.items 0) (λ before. IfSome (slice_get engines.new.items 0) (λ now. Completes slots input (S.faults source.old) (S.faults source.new) (K.faults sink.old) (K.faults sink.new) (⟦<Box<dyn Engine + Send> as Engine>⟧.fault_count before) (⟦<Box<dyn Engine + Send> as Engine>⟧.fault_count now) result)))) }
+    ensures make_completes { OnMake (asked_command (map (λ w. string_bytes w) words.now)) (λ _. (Rose (K.faults sink.old) (K.faults sink.new) → ⊥) → (result ≡ Status.Fine) ⊎ (result ≡ Status.NoMemory)) }
     ensures crew { vec_len engines.new ≡ 16 }
     ensures others { drop 1 engines.new.items ≡ drop 1 engines.old.items }
 {
-    match slots_of_words(words) {
-        Some(slots) => script_run(alloc, slots, source, sink, &mut engines[0]),
-        None => Status::Usage,
+    match read_words(words) {
+        Some(Command::Script(options)) => {
+            script_run(alloc, options.slots, source, sink, &mut engines[0])
+        }
+        Some(Command::Make(options)) => make_run(alloc, &options, sink),
+        _ => Status::Usage,
     }
 }

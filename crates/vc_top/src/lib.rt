@@ -1,5 +1,5 @@
-//! The commands of the program: `script` reads a script whole, carries out its lines on a device of
-//! copying contexts, and prints what they answer. docs/FORMAT.md has the grammar and the texts.
+//! The commands of the program: `script` reads a script whole, carries out its lines on a device, and prints
+//! what they answer; `make` writes pictures of the generator. docs/FORMAT.md has the grammar and the texts.
 #![tactic(auto)]
 
 mod carry;
@@ -9,7 +9,6 @@ mod input;
 pub mod laws;
 mod script;
 mod status;
-mod words;
 
 pub use commands::{script_run, top};
 pub use status::Status;

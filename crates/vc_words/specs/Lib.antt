@@ -1,0 +1,4 @@
+pub mod Options
+pub mod Formats
+pub mod Commands
+pub mod Ranges
