@@ -143,13 +143,14 @@ frame_under_way f c b d before now side j h =
     }
 
 -- the first fault
-pub fault_under_way : (f : FlowSoFar) (c : Context) (b d : Buffer) (before now before_bad now_bad : ℕ) → before_bad ≤ now_bad → HasFrames f c before now → HasFault f (after_fault c b d) before_bad (now_bad + 1)
-fault_under_way f c b d before now before_bad now_bad l h =
+pub fault_under_way : (f : FlowSoFar) (c : Context) (b d : Buffer) (before now before_bad now_bad : ℕ) → before_bad ≤ now_bad → c.out.job ≡ b ∷ [] → HasFrames f c before now → HasFault f (after_fault c b d) before_bad (now_bad + 1)
+fault_under_way f c b d before now before_bad now_bad l j h =
     let z : Buffer = record d { used = 0; bytes = known_bytes c.cap.side error_flag []; flags = error_flag; stamp = b.stamp; seq = c.cap.next_seq } in
     record {
       coded = h.coded;
-      others = payloads (c.out.job ++ c.out.ready);
-      queued = h.waiting;
+      lost = b.bytes;
+      others = payloads c.out.ready;
+      queued = h.waiting ∙ ap (λ l. h.coded ++ payloads (l ++ c.out.ready)) j;
       front = c.cap.done;
       bad = z;
       back = [];
@@ -165,6 +166,7 @@ later_under_way : (f : FlowSoFar) (c y : Context) (more : List Buffer) (before n
 later_under_way f c y more before now later l e h =
     record {
       coded = h.coded;
+      lost = h.lost;
       others = h.others;
       queued = h.queued;
       front = h.front;
@@ -195,7 +197,7 @@ pub record GoesOn (f : FlowSoFar) (good_before good_now faults_before faults_now
   pub encodes : IsEncoding f context
   pub under_way : IsUnderWay f context good_before (good_now + count_of false e told) faults_before (faults_now + count_of true e told)
 
-frames_later : (f : FlowSoFar) (c : Context) (before now later : ℕ) → now ≤ later → HasFrames f c before now → HasFrames f c before later
+pub frames_later : (f : FlowSoFar) (c : Context) (before now later : ℕ) → now ≤ later → HasFrames f c before now → HasFrames f c before later
 frames_later f c before now later l h =
     record { coded = h.coded; codec = h.codec; waiting = h.waiting; frames = h.frames; good = h.good; counted = omega (arith, h.counted, l) }
 
@@ -283,7 +285,7 @@ fault_goes_on f c r job x y word g h l m v t w ends u (inl q) =
       context = z;
       there = ap (λ (v : Context). Some v) end.1;
       encodes = encodes_fault f c job.source end.0 w;
-      under_way = inr (fault_under_way f c job.source end.0 g h l m v q);
+      under_way = inr (fault_under_way f c job.source end.0 g h l m v job.job q);
     }
 fault_goes_on f c r job x y word g h l m v t w ends u (inr q) =
     let end = failed f c r job x y w t ends u in

@@ -2,9 +2,13 @@
 use Rattle.std.specs.Prelude.{ℕ, ◌≡◌, ◌⊎◌, ◌+◌, ◌≤◌, ◌<◌, Bool, true, not, map, length, Option, Some, None, List, [], ◌∷◌, ◌++◌}
 use Rattle.std.specs.List.{list_all}
 use Rattle.vc_base.specs.declared.Format.{Format}
+use Rattle.vc_base.specs.declared.Side.TheVariants.{Out}
 use Rattle.vc_base.specs.declared.Kind.TheVariants.{Enc}
 use Rattle.vc_base.specs.Buffers.{Buffer}
 use Rattle.vc_defs.specs.Encoder.{RunRates, EncoderState, fresh_encoder}
+use Rattle.vc_defs.specs.Outputs.{default_rates}
+use Rattle.vc_defs.specs.Raw.{yu12}
+use Rattle.vc_model.specs.Formats.{raw_format, formats_at_open, formats_for}
 use Rattle.vc_model.specs.Coder.{encoder}
 use Rattle.vc_model.specs.Context.{Context, Running, run}
 use Rattle.vc_model.specs.Handed.{finishes_by_fault}
@@ -68,12 +72,13 @@ pub record HasFrames (f : FlowSoFar) (c : Context) (before now : ℕ) : Type 0 w
   pub good : AreGood c.cap.done
   pub counted : before + length coded ≤ now
 
--- A job was finished with a fault. Its buffer, with the flag ERROR, is done. The frames before it, handed out or done, are those
--- of the first pictures.
+-- A job was finished with a fault, and its picture is lost. Its buffer, with the flag ERROR, is done. The frames before it,
+-- handed out or done, are those of the pictures before the lost one.
 pub record HasFault (f : FlowSoFar) (c : Context) (before now : ℕ) : Type 0 where
   pub coded : List (List ℕ)
+  pub lost : List ℕ
   pub others : List (List ℕ)
-  pub queued : f.queued ≡ coded ++ others
+  pub queued : f.queued ≡ coded ++ lost ∷ others
   pub front : List Buffer
   pub bad : Buffer
   pub back : List Buffer
@@ -95,3 +100,28 @@ pub record IsFlow (start : List SoloEvent) (f : FlowSoFar) (events : List SoloEv
   pub encodes : IsEncoding f context
   pub under_way : IsUnderWay f context (good_finishes start) (good_finishes events) (fault_finishes start) (fault_finishes events)
   pub handed : bytes_out events ≡ bytes_out start ++ joined f.taken
+  pub later : fault_finishes start ≤ fault_finishes events
+
+-- the flow of a slot that was just opened
+abbrev pub flow_at_open : FlowSoFar
+flow_at_open =
+    record { format = raw_format yu12 352 288; rates = default_rates; queued = []; taken = [] }
+
+abbrev pub with_format : FlowSoFar → Format → FlowSoFar
+with_format f format = record f { format = format }
+
+abbrev pub with_rates : FlowSoFar → RunRates → FlowSoFar
+with_rates f rates = record f { rates = rates }
+
+-- no picture was queued, and no frame was handed out
+pub record HasBegun (f : FlowSoFar) : Type 0 where
+  pub queued : f.queued ≡ []
+  pub taken : f.taken ≡ []
+
+-- the device sets the format as it is asked for: it is a raw format with a size that its pictures can have
+abbrev pub IsKept : Format → Type 0
+IsKept format = (formats_for Enc Out (formats_at_open Enc) format).out ≡ format
+
+-- what was handed out stays, and maybe more was
+abbrev pub HandedMore : List SoloEvent → List SoloEvent → Type 0
+HandedMore old new = (more : List ℕ) × (bytes_out new ≡ bytes_out old ++ more)
