@@ -1,0 +1,6 @@
+pub mod Calls
+pub mod Encoding
+pub mod Events
+pub mod Frames
+pub mod Opening
+pub mod Pictures

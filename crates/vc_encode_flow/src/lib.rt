@@ -1,0 +1,2 @@
+//! Raw pictures through one encoder of the device, over any port.
+#![tactic(auto)]
