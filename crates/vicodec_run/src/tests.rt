@@ -1,6 +1,7 @@
 //! Scripts through `top`, with sources and sinks in memory.
 
 mod copying;
+mod decoders;
 mod encoders;
 mod faults;
 
