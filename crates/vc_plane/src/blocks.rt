@@ -50,20 +50,31 @@ fn samples(y: &[i32; 64], reference: &[u8; 64], inter: bool) -> [u8; 64]
     block
 }
 
-/// Whether all values of a block are zero.
-fn is_zero(q: &[i32; 64]) -> bool
-    ensures { result ≡ true → (k : ℕ) → k < 64 → slice_index_or q.now k (pos 0) ≡ pos 0 }
+/// How many values of a block behind the first are not zero.
+fn count_others(q: &[i32; 64]) -> u32
+    ensures { result ≡ 0 → (k : ℕ) → 0 < k → k < 64 → slice_index_or q.now k (pos 0) ≡ pos 0 }
 {
-    *q == [0; 64]
+    let mut count = 0;
+    for k in 1..64 {
+        if q[k] != 0 {
+            count += 1;
+        }
+    }
+    count
 }
 
 /// Whether all values of a block but the first are zero.
 fn is_flat(q: &[i32; 64]) -> bool
     ensures { result ≡ true → (k : ℕ) → 0 < k → k < 64 → slice_index_or q.now k (pos 0) ≡ pos 0 }
 {
-    let mut others = *q;
-    others[0] = 0;
-    is_zero(&others)
+    count_others(q) == 0
+}
+
+/// Whether all values of a block are zero.
+fn is_zero(q: &[i32; 64]) -> bool
+    ensures { result ≡ true → (k : ℕ) → k < 64 → slice_index_or q.now k (pos 0) ≡ pos 0 }
+{
+    q[0] == 0 && is_flat(q)
 }
 
 /// The first coefficient of a block with this first value.
