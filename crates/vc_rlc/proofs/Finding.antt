@@ -1,5 +1,5 @@
 -- Finding the values that are not zero.
-use Rattle.std.proofs.Common.{◌≡◌, ◌≢◌, ◌∙◌, sym, ap, refl, ℕ, suc, zero, ◌+◌, ◌<◌, ◌≤◌, inl, inr, List, length, get_or, set, arith, subst, add-one, get_or-set_same, get_or-set_other}
+use Rattle.std.proofs.Common.{◌≡◌, ◌≢◌, ◌∙◌, ap, refl, ℕ, suc, zero, ◌+◌, ◌<◌, ◌≤◌, inl, inr, List, length, get_or, set, arith, subst, add-one, get_or-set_same, get_or-set_other}
 use Rattle.std.specs.Prelude.{ℤ, pos}
 use Rattle.std.proofs.lemmas.Bool.{cases_lt}
 use Rattle.vc_rlc.specs.Finding.{behind, AreFound}
@@ -79,5 +79,6 @@ value_found values numbers count k room is f =
   where
     last : get_or (set numbers count k) count 0 ≡ k → behind (set numbers count k) (count + 1) ≤ k + 1
     last new = omega (arith, new, behind_next (set numbers count k) count)
+
     no_room : get_or (set numbers count k) count 0 ≡ k → (j : ℕ) → behind (set numbers count k) (count + 1) ≤ j → j < k + 1 → ⊥
     no_room new j a b = omega (arith, new, a, b, behind_next (set numbers count k) count)

@@ -1,4 +1,4 @@
-use Rattle.std.proofs.Common.{◌≡◌, ℕ, length}
+use Rattle.std.proofs.Common.{◌≡◌, length}
 use Rattle.vc_defs.specs.Words.{in_scan_order}
 use Rattle.vc_rlc.specs.Finding.{AreFound}
 use Rattle.vc_rlc.proofs.find_values.Given as goal
