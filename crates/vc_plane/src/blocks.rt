@@ -22,6 +22,21 @@ pub(crate) fn base(inter: bool, reference: &[u8; 64], k: usize) -> i32
     if inter { reference[k] as i32 } else { 128 }
 }
 
+/// A number brought into the range of a sample.
+fn clamp(z: i32) -> i32
+    ensures value { result ≡ pos (clamped z) }
+    ensures least { pos 0 ≤ℤ result }
+    ensures most { result ≤ℤ pos 255 }
+{
+    if z < 0 {
+        0
+    } else if z > 255 {
+        255
+    } else {
+        z
+    }
+}
+
 /// The sample of an entry of the inverse transform.
 fn sample(y: i32, base: i32) -> u8
     requires entry { (neg_ℤ (pos 134217728) ≤ℤ y) × (y ≤ℤ pos 134217728) }
@@ -29,13 +44,7 @@ fn sample(y: i32, base: i32) -> u8
     ensures { result ≡ clamped (int_shr y 6 +ℤ base) }
 {
     let z = (y >> 6) + base;
-    if z < 0 {
-        0
-    } else if z > 255 {
-        255
-    } else {
-        z as u8
-    }
+    clamp(z) as u8
 }
 
 /// The samples of a block, from its inverse transform and what it was coded as a difference from.
