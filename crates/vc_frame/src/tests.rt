@@ -198,6 +198,8 @@ fn frames_are_decoded_in_their_order(rt: HostRuntime) -> Result<(), Fail> {
     assert_eq!(rt; decodes(&mut reference, false, Some(8)), Ok(true));
     assert_eq!(rt; decodes(&mut reference, false, Some(8)), Err(Damaged));
     assert_eq!(rt; decodes(&mut reference, false, Some(9)), Err(Damaged));
+    assert_eq!(rt; decodes(&mut reference, true, Some(0)), Ok(true));
+    assert_eq!(rt; decodes(&mut reference, false, Some(1)), Ok(true));
     assert_eq!(rt; decodes(&mut reference, true, Some(2047)), Ok(true));
     assert_eq!(rt; decodes(&mut reference, false, Some(0)), Ok(true));
     Ok(())

@@ -1,10 +1,10 @@
 -- Blocks of which only the first value may not be zero.
-use Rattle.std.proofs.Common.{◌≡◌, ◌∙◌, sym, ap, refl, ℕ, suc, zero, ◌+◌, ◌*◌, ◌/◌, ◌%◌, ◌^◌, ◌<◌, ◌≤◌, inl, inr, List, length, get_or, map, replicate, arith}
-use Rattle.std.specs.Prelude.{ℤ, pos, neg_ℤ, ◌≤ℤ◌, ◌+ℤ◌, ◌*ℤ◌, Bool}
+use Rattle.std.proofs.Common.{◌≡◌, ◌∙◌, sym, ap, refl, ℕ, suc, zero, ◌+◌, ◌*◌, ◌/◌, ◌%◌, ◌^◌, ◌<◌, inl, inr, List, get_or, replicate, arith}
+use Rattle.std.specs.Prelude.{ℤ, pos, ◌*ℤ◌, Bool}
 use Rattle.std.proofs.lemmas.Int.{ints}
 use Rattle.std.proofs.lemmas.List.{ext_get_or, get_or-replicate, length-replicate}
 use Rattle.vc_defs.specs.Walsh.{sum_below, walsh, entry_at, coefficient, transformed}
-use Rattle.vc_defs.specs.Quantiser.{AllBetween, dequantised, shift_at}
+use Rattle.vc_defs.specs.Quantiser.{dequantised, shift_at}
 use Rattle.vc_defs.proofs.Tables.{entry_of_table, length_of_table}
 use Rattle.vc_fwht.proofs.Sums.{IsSign}
 use Rattle.vc_fwht.proofs.Matrix.{walsh_is_sign, walsh_symmetric}

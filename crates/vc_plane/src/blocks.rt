@@ -22,6 +22,21 @@ pub(crate) fn base(inter: bool, reference: &[u8; 64], k: usize) -> i32
     if inter { reference[k] as i32 } else { 128 }
 }
 
+/// A number brought into the range of a sample.
+fn clamp(z: i32) -> i32
+    ensures value { result ≡ pos (clamped z) }
+    ensures least { pos 0 ≤ℤ result }
+    ensures most { result ≤ℤ pos 255 }
+{
+    if z < 0 {
+        0
+    } else if z > 255 {
+        255
+    } else {
+        z
+    }
+}
+
 /// The sample of an entry of the inverse transform.
 fn sample(y: i32, base: i32) -> u8
     requires entry { (neg_ℤ (pos 134217728) ≤ℤ y) × (y ≤ℤ pos 134217728) }
@@ -29,13 +44,7 @@ fn sample(y: i32, base: i32) -> u8
     ensures { result ≡ clamped (int_shr y 6 +ℤ base) }
 {
     let z = (y >> 6) + base;
-    if z < 0 {
-        0
-    } else if z > 255 {
-        255
-    } else {
-        z as u8
-    }
+    clamp(z) as u8
 }
 
 /// The samples of a block, from its inverse transform and what it was coded as a difference from.
@@ -50,20 +59,31 @@ fn samples(y: &[i32; 64], reference: &[u8; 64], inter: bool) -> [u8; 64]
     block
 }
 
-/// Whether all values of a block are zero.
-fn is_zero(q: &[i32; 64]) -> bool
-    ensures { result ≡ true → (k : ℕ) → k < 64 → slice_index_or q.now k (pos 0) ≡ pos 0 }
+/// How many values of a block behind the first are not zero.
+fn count_others(q: &[i32; 64]) -> u32
+    ensures { result ≡ 0 → (k : ℕ) → 0 < k → k < 64 → slice_index_or q.now k (pos 0) ≡ pos 0 }
 {
-    *q == [0; 64]
+    let mut count = 0;
+    for k in 1..64 {
+        if q[k] != 0 {
+            count += 1;
+        }
+    }
+    count
 }
 
 /// Whether all values of a block but the first are zero.
 fn is_flat(q: &[i32; 64]) -> bool
     ensures { result ≡ true → (k : ℕ) → 0 < k → k < 64 → slice_index_or q.now k (pos 0) ≡ pos 0 }
 {
-    let mut others = *q;
-    others[0] = 0;
-    is_zero(&others)
+    count_others(q) == 0
+}
+
+/// Whether all values of a block are zero.
+fn is_zero(q: &[i32; 64]) -> bool
+    ensures { result ≡ true → (k : ℕ) → k < 64 → slice_index_or q.now k (pos 0) ≡ pos 0 }
+{
+    q[0] == 0 && is_flat(q)
 }
 
 /// The first coefficient of a block with this first value.

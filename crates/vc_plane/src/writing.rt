@@ -83,12 +83,10 @@ fn add_block(out: &mut [u8], pending: &mut Pending, inter: bool, q: &[i32; 64]) 
         Ok(end) => end,
         Err(full) => return Err(full),
     };
-    *pending = Pending {
-        inter,
-        values: *q,
-        repeats: 0,
-        end,
-    };
+    pending.inter = inter;
+    pending.values = *q;
+    pending.repeats = 0;
+    pending.end = end;
     Ok(())
 }
 

@@ -119,6 +119,20 @@ fn coefficient_at(q: &[i32; 64], intra: bool, k: usize) -> i32
     coefficient(q[k], step(intra, k))
 }
 
+/// The values of a block of one type. The table of factors is the same for the whole block where the type is known at
+/// each call.
+fn quantise_as(c: &[i32; 64], intra: bool, qp: u32) -> [i32; 64]
+    requires { AreCoefficients intra c.now }
+    ensures quantised { result ≡ quantised c.now intra qp }
+    ensures range { AreValues result }
+{
+    let mut q = [0; 64];
+    for k in 0..64 {
+        q[k] = value_at(c, intra, qp, k);
+    }
+    q
+}
+
 /// Quantises the coefficients of a block: each is shifted right, rounding down, by the entry of its diagonal, and
 /// then a value from `-qp` to `qp` becomes 0.
 ///
@@ -131,11 +145,24 @@ pub fn quantise(c: &[i32; 64], intra: bool, qp: u32) -> [i32; 64]
     ensures quantised { result ≡ quantised c.now intra qp }
     ensures range { AreValues result }
 {
-    let mut q = [0; 64];
-    for k in 0..64 {
-        q[k] = value_at(c, intra, qp, k);
+    if intra {
+        quantise_as(c, true, qp)
+    } else {
+        quantise_as(c, false, qp)
     }
-    q
+}
+
+/// The coefficients of a block of one type, as [`quantise_as`] has its values.
+fn dequantise_as(q: &[i32; 64], intra: bool) -> [i32; 64]
+    requires { AreValues q.now }
+    ensures dequantised { result ≡ dequantised q.now intra }
+    ensures range { AllBetween (neg_ℤ (pos 2097152)) (pos 2097152) result }
+{
+    let mut c = [0; 64];
+    for k in 0..64 {
+        c[k] = coefficient_at(q, intra, k);
+    }
+    c
 }
 
 /// Gives the coefficients that the values of a block stand for: each value shifted left by the entry of its
@@ -148,11 +175,11 @@ pub fn dequantise(q: &[i32; 64], intra: bool) -> [i32; 64]
     ensures dequantised { result ≡ dequantised q.now intra }
     ensures range { AllBetween (neg_ℤ (pos 2097152)) (pos 2097152) result }
 {
-    let mut c = [0; 64];
-    for k in 0..64 {
-        c[k] = coefficient_at(q, intra, k);
+    if intra {
+        dequantise_as(q, true)
+    } else {
+        dequantise_as(q, false)
     }
-    c
 }
 
 #[cfg(test)]

@@ -1,4 +1,4 @@
-use Rattle.std.proofs.Common.{arith, ◌∙◌, ◌+◌, ◌*◌, ◌/◌, ◌%◌, ◌<◌}
+use Rattle.std.proofs.Common.{arith, ◌∙◌, ◌+◌, ◌/◌, ◌%◌}
 use Rattle.vc_defs.specs.Planes.{padded_sample}
 use Rattle.vc_block.specs.Places.{block_from}
 use Rattle.vc_block.proofs.Samples.{samples_are, row_taken}

@@ -1,5 +1,5 @@
-use Rattle.std.proofs.Common.{◌≡◌, refl, sym, subst, not}
-use Rattle.std.specs.Prelude.{Bool, true, false}
+use Rattle.std.proofs.Common.{refl, sym, subst, not}
+use Rattle.std.specs.Prelude.{Bool}
 use Rattle.vc_defs.specs.Walsh.{transformed}
 use Rattle.vc_defs.specs.Quantiser.{dequantised}
 use Rattle.vc_plane.specs.Samples.{AreShown}

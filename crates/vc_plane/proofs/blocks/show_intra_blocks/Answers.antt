@@ -1,7 +1,7 @@
 use Rattle.std.proofs.Common.{◌≡◌, ◌∙◌, subst, ℕ, arith, replicate}
 use Rattle.vc_defs.specs.Planes.{block_of}
 use Rattle.std.specs.Prelude.{false}
-use Rattle.vc_plane.specs.Samples.{samples_from, AreShown}
+use Rattle.vc_plane.specs.Samples.{AreShown}
 use Rattle.vc_plane.proofs.Shown.{intra_samples, none_shown, one_more_shown}
 use Rattle.vc_plane.proofs.blocks.show_intra_blocks.Goals as goal
 

@@ -1,10 +1,9 @@
-use Rattle.std.proofs.Common.{refl, ◌≡◌, ◌∙◌, sym, ap, subst, ℕ, ◌<◌, ◌≤◌, ◌+◌, List, [], length, get_or, arith}
-use Rattle.std.specs.Prelude.{not, false}
+use Rattle.std.proofs.Common.{refl, ◌≡◌, ◌∙◌, subst, ℕ, ◌<◌, [], arith}
+use Rattle.std.specs.Prelude.{not}
 use Rattle.vc_defs.specs.Walsh.{transformed}
 use Rattle.vc_defs.specs.Quantiser.{dequantised}
-use Rattle.vc_defs.specs.Planes.{Block, block_count, coded_blocks, decoded_plane}
+use Rattle.vc_defs.specs.Planes.{block_count, coded_blocks, decoded_plane}
 use Rattle.vc_plane.specs.Entries.{block_with}
-use Rattle.vc_plane.specs.Writing.{IsBlockAdded}
 use Rattle.vc_plane.proofs.Shown.{AreDecoded, none_decoded, all_decoded}
 use Rattle.vc_plane.proofs.Coded.{length-coded_blocks, block_coded, first_coded, more_coded, not_coded, all_coded, count_some, on_ok}
 use Rattle.vc_plane.proofs.writing.write_coded.Goals as goal

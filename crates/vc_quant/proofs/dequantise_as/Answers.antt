@@ -2,7 +2,7 @@ use Rattle.std.proofs.Common.{arith}
 use Rattle.vc_defs.specs.Quantiser.{dequantised}
 use Rattle.vc_defs.proofs.Tables.{table_is}
 use Rattle.vc_quant.proofs.Ranges.{dequantised_in_range}
-use Rattle.vc_quant.proofs.dequantise.Goals as goal
+use Rattle.vc_quant.proofs.dequantise_as.Goals as goal
 
 pub returns-clause-dequantised : goal.returns-clause-dequantised
 unfolding dequantised
