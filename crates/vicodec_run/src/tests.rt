@@ -1,6 +1,7 @@
 //! Scripts through `top`, with sources and sinks in memory.
 
 mod encoders;
+mod make;
 
 use std::alloc::Global;
 use std::test::Fail;
