@@ -40,11 +40,11 @@ fn write_picture<K: Sink>(
     write_whole(sink, buffer)
 }
 
-/// Writes the first pictures of the generator for a number, one after another, each with one call of `write_whole`.
+/// Writes the first pictures of the generator for a number, one after another, after docs/FORMAT.md, "The generator".
+/// Each is made in the same buffer and handed to the sink as one piece.
 ///
 /// The format is a raw one with a size that its pictures can have. There are at most 1,000,000 pictures, and the number
-/// is at most 1,000,063. After a failed write a front of the pictures was written,
-/// and nothing where memory was refused.
+/// is at most 1,000,063. After a failed write a front of the pictures was written, and nothing where memory was refused.
 pub fn write_pictures<K: Sink>(
     alloc: Global,
     format: &Format,
@@ -61,7 +61,7 @@ pub fn write_pictures<K: Sink>(
     ensures write { IsErrOf result MakeStop.WriteFault → Rose (K.faults sink.old) (K.faults sink.new) }
     ensures later { K.faults sink.old ≤ K.faults sink.new }
 {
-    let Ok(mut bytes) = Vec::from_elem(alloc, 0u8, format.size as usize) else {
+    let Ok(mut bytes) = vec![in alloc; 0; format.size as usize] else {
         return Err(MakeStop::NoMemory);
     };
     for picture in 0..pictures {

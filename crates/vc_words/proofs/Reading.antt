@@ -1,5 +1,5 @@
 -- Words that are read two by two.
-use Rattle.std.proofs.Common.{◌≡◌, refl, sym, ◌∙◌, ap, ℕ, suc, ◌-◌, ◌<◌, ◌≤◌, Bool, true, false, ◌&&◌, ◌==◌, List, [], ◌∷◌, length, take, drop, get_or, map, Option, None, arith}
+use Rattle.std.proofs.Common.{◌≡◌, refl, sym, ◌∙◌, ap, ℕ, ◌-◌, ◌<◌, ◌≤◌, true, false, ◌&&◌, ◌==◌, List, [], ◌∷◌, length, take, drop, get_or, map, None, arith}
 use Rattle.std.proofs.lemmas.List.{take_all}
 use Rattle.vc_words.specs.declared.options.Name.{Name}
 use Rattle.vc_words.specs.Options.{value_of, is_single, are_options}

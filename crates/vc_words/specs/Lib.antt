@@ -2,3 +2,4 @@ pub mod Options
 pub mod Formats
 pub mod Commands
 pub mod Ranges
+pub mod Laws

@@ -1,5 +1,5 @@
 -- What options may be.
-use Rattle.std.specs.Prelude.{ℕ, ◌≡◌, ◌≤◌}
+use Rattle.std.specs.Prelude.{ℕ, ◌≤◌}
 use Rattle.vc_defs.specs.Laws.{IsRawFormat}
 use Rattle.vc_words.specs.declared.command.Command.{Command}
 use Rattle.vc_words.specs.declared.command.Command.TheVariants.{Script, Encode, Decode, Make, Share, Transcode, Audit, Wire}

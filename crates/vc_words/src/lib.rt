@@ -4,6 +4,7 @@
 
 mod command;
 mod formats;
+pub mod laws;
 mod options;
 mod read;
 #[cfg(test)]

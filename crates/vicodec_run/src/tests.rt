@@ -4,6 +4,7 @@ mod copying;
 mod decoders;
 mod encoders;
 mod faults;
+mod make;
 
 use std::alloc::Global;
 use std::test::Fail;
