@@ -1,11 +1,15 @@
 pub mod Answered
 pub mod Calling
+pub mod Changing
+pub mod Claims
 pub mod Creating
+pub mod DecodeRuns
 pub mod Layouts
 pub mod Made
 pub mod Noting
 pub mod Opening
 pub mod Placing
+pub mod Probes
 pub mod Queueing
 pub mod Requesting
 pub mod Rows

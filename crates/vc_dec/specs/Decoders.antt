@@ -76,6 +76,10 @@ IsOfStream limit geometry state (Some job) = Unit {0}
 abbrev pub AreBegun : List Buffer → Type 0
 AreBegun bs = list_all (λ b. nat_le b.cursor b.used) bs ≡ true
 
+-- no byte of a buffer was consumed
+abbrev pub AreUntouched : List Buffer → Type 0
+AreUntouched bs = list_all (λ b. b.cursor == 0) bs ≡ true
+
 -- no buffer, or the one with the index and the length
 abbrev pub IsDestOf : Option Dest → List Buffer → Type 0
 IsDestOf None bs = bs ≡ []
@@ -121,6 +125,7 @@ pub record IsDecoder (formats : FormatPair) (geometry : Option Geometry) (p : Pa
   pub fresh : buffer_count p.out ≡ 0 → parts.state ≡ fresh_decoder
   pub stream : IsOfStream formats.out.size geometry parts.state job
   pub begun : AreBegun p.out.ready
+  pub untouched : AreUntouched p.out.held
   pub knows : KnowsItsJob p job
   pub supplied : IsSupplied formats.out.size p.out parts.limit job
   pub served : AreServed (lent_room job ++ parts.rooms) p.cap

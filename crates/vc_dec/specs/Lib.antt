@@ -1,3 +1,4 @@
 pub mod Decoders
 pub mod Parts
 pub mod Serving
+pub mod Works

@@ -2,9 +2,8 @@
 -- buffers.
 use Rattle.std.specs.Prelude.{ℕ, ◌≡◌, Bool, true, false, map, Option, Some, None, List, [], ◌∷◌, ◌++◌}
 use Rattle.std.specs.Option.{option_map}
-use Rattle.vc_defs.specs.Decoder.{ReferenceState, DecoderState, fresh_decoder}
+use Rattle.vc_defs.specs.Decoder.{ReferenceState, fresh_decoder}
 use Rattle.vc_defs.specs.Encoder.{fresh_encoder}
-use Rattle.vc_defs.specs.Finds.{KeptBytes, nothing_kept}
 use Rattle.vc_resync.specs.Assembling.{AssemblyState, fresh_assembly}
 use Rattle.vc_work.specs.References.{CodecReference, HasRoomFor}
 use Rattle.vc_work.specs.Streams.{decoder_of, picture_of, kept_of}
@@ -18,13 +17,17 @@ abbrev pub room_of : Option CodecReference → List ℕ
 room_of None = []
 room_of (Some r) = r.size ∷ []
 
+-- for how long buffers the references are, the present one first
+abbrev pub rooms_of : Option CodecReference → List CodecReference → List ℕ
+rooms_of present others = room_of present ++ map (λ (r : CodecReference). r.size) others
+
 -- The picture is in the present reference. The other ones serve buffers of other lengths.
 abbrev pub parts_of : Option AssemblyState → Option CodecReference → List CodecReference → CodecParts
 parts_of assembly present others =
     record {
       state = decoder_of (picture_of present) (kept_of assembly);
       limit = limit_of assembly;
-      rooms = room_of present ++ map (λ (r : CodecReference). r.size) others;
+      rooms = rooms_of present others;
     }
 
 -- an assembly that was made, where it was needed

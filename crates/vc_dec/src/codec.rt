@@ -8,6 +8,8 @@ ghost use Rattle.vc_work.specs.Streams.{kept_of};
 ghost use Rattle.vc_dec.specs.Decoders.{serves};
 ghost use Rattle.vc_dec.specs.Parts.{begun, room_of, limit_of, supplied_with, rooms_after, rooms_with, CanTakeOver, new_assembly, new_reference};
 
+mod lending;
+
 use std::alloc::Global;
 use std::marker::Model;
 use vc_base::NoMemory;
@@ -71,11 +73,11 @@ fn one_serves(references: &[Reference], length: u32) -> bool
 }
 
 /// Whether the reference, where there is one, is as long as that.
-fn is_as_long(reference: &Option<Reference>, length: u32) -> bool
+fn is_as_long(reference: &Option<Reference>, length: usize) -> bool
     ensures { result ≡ serves (room_of reference.now) length }
 {
     match reference {
-        Some(reference) => reference.room() == length as usize,
+        Some(reference) => reference.room() == length,
         None => false,
     }
 }
@@ -129,7 +131,7 @@ impl Codec {
     pub(crate) fn serves(&self, length: u32) -> bool
         ensures { result ≡ serves self.now.rooms length }
     {
-        is_as_long(&self.present, length) || one_serves(&self.others, length)
+        is_as_long(&self.present, length as usize) || one_serves(&self.others, length)
     }
 
     /// Puts a reference, where there is one, in the place of all that are there. It takes the picture over.
