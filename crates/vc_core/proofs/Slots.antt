@@ -14,9 +14,10 @@ use Rattle.vc_model.specs.Answer.{Answer, answer, closed_answer, context_answer,
 use Rattle.vc_model.specs.Runs.{is_claimable}
 use Rattle.vc_queue.specs.Holds.{HoldState}
 use Rattle.vc_core.specs.declared.slot.Content.{Content}
-use Rattle.vc_core.specs.declared.slot.Content.TheVariants.{Closed, Copying, Encoding}
+use Rattle.vc_core.specs.declared.slot.Content.TheVariants.{Closed, Copying, Encoding, Decoding}
 use Rattle.vc_core.specs.declared.copier.Copier.{Copier}
 use Rattle.vc_enc.specs.declared.Encoder.{Encoder}
+use Rattle.vc_dec.specs.declared.Decoder.{Decoder}
 use Rattle.vc_core.specs.Contents.{slot_state}
 use Rattle.vc_context.specs.Contexts.{GivesWithMemory, IsStep}
 use Rattle.vc_core.specs.Slots.{IsAnswer, IsStepOfSlot, opened_kind}
@@ -128,6 +129,9 @@ copying_view content s copier view e = sym (ap slot_state e) ∙ view
 
 pub encoding_view : (content : Content) (s : Slot) (encoder : Box Encoder Global) → slot_state content ≡ s → content ≡ Encoding encoder → Some encoder.value ≡ s
 encoding_view content s encoder view e = sym (ap slot_state e) ∙ view
+
+pub decoding_view : (content : Content) (s : Slot) (decoder : Box Decoder Global) → slot_state content ≡ s → content ≡ Decoding decoder → Some decoder.value ≡ s
+decoding_view content s decoder view e = sym (ap slot_state e) ∙ view
 
 pub fits_inside : (s : Slot) (c d : Context) (hold : HoldState) → Some c ≡ s → d ≡ c → FitsSlot s hold → FitsContext d hold
 fits_inside s c d hold view e f =

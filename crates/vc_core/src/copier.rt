@@ -121,6 +121,7 @@ fn copy_work(source: Lent, dest: Lent, format: Format) -> Work
         dest: Some(dest_of(dest)),
         reference: None,
         geometry: None,
+        assembly: None,
         format,
         limit,
         rates,
@@ -450,6 +451,7 @@ impl Copier {
         ensures holds { (hold : HoldState) → FitsContext self.old hold → FitsContext self.new hold }
         ensures step { IsStep self.old self.new }
     {
+        self.running = false;
         let (used, flags) = brought(&outcome);
         let Work { source, dest, .. } = work;
         let Some(payload) = dest else { unreachable!() };
@@ -459,6 +461,5 @@ impl Copier {
         let dest = dest_back(self.dest, payload);
         self.out.retire(source, source_used, flags, stamp);
         self.cap.retire(dest, used, flags, stamp);
-        self.running = false;
     }
 }

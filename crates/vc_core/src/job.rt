@@ -101,13 +101,18 @@ impl Finished {
     ghost use Rattle.vc_model.specs.Core.{BroughtBack, word_of};
     ghost use Rattle.vc_core.specs.Jobs.{Brings, is_fault};
 
-    /// How the job ended: `copied`, `encoded`, or `fault` where the engine gave up.
+    /// How the job ended: `copied`, `encoded`, `picture`, `damaged`, `changed` or `spent`, after the outcome of its
+    /// run, or `fault` where the engine gave up.
     pub fn word(&self) -> &'static str
         ensures { (k : ℕ) (back : BroughtBack) → Brings k back self.now → result.now ≡ word_of back }
     {
         match self.outcome {
             Ok(Outcome::Copied { .. }) => "copied",
             Ok(Outcome::Encoded { .. }) => "encoded",
+            Ok(Outcome::Picture { .. }) => "picture",
+            Ok(Outcome::Damaged { .. }) => "damaged",
+            Ok(Outcome::Changed { .. }) => "changed",
+            Ok(Outcome::Spent) => "spent",
             Err(EngineFault) => "fault",
         }
     }

@@ -3,8 +3,7 @@
 //! Each call, claim, finish and shut is one step of the device, as docs/DEVICE.md defines it. A job takes
 //! the buffers of its run with it and is run outside the device, on no lock.
 //!
-//! So far there are contexts that copy and that encode. Contexts that decode add a variant to the contents of
-//! a slot, and an arm to each of its calls.
+//! There are contexts that copy, that encode and that decode.
 #![tactic(auto)]
 
 mod copier;

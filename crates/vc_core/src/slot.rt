@@ -2,7 +2,7 @@
 
 ghost use Rattle.std.specs.Prelude.{◌≡◌, ℕ, true, false, is_some, Some, None, List, [], IfSome};
 ghost use Rattle.std.specs.Option.{option_map};
-ghost use Rattle.vc_base.specs.declared.Kind.TheVariants.{Copy, Enc};
+ghost use Rattle.vc_base.specs.declared.Kind.TheVariants.{Copy, Enc, Dec};
 ghost use Rattle.vc_base.specs.declared.Call.TheVariants.{Open, Close};
 ghost use Rattle.vc_model.specs.Core.{BroughtBack, claimed_in, before_memory, unless_memory};
 ghost use Rattle.vc_model.specs.Answer.{closed_answer};
@@ -20,15 +20,17 @@ use std::alloc::Global;
 use std::marker::Model;
 use vc_base::{Call, Errno, Kind, Reply};
 use vc_context::replies::no_memory;
+use vc_dec::Decoder;
 use vc_enc::Encoder;
 use vc_queue::hold::Hold;
 
-/// What a slot has. Contexts that decode become a further variant.
+/// What a slot has.
 #[derive(Drop)]
 enum Content {
     Closed,
     Copying(Box<Copier>),
     Encoding(Box<Encoder>),
+    Decoding(Box<Decoder>),
 }
 
 /// A slot of the device.
@@ -102,6 +104,7 @@ impl Slot {
             Content::Closed => {}
             Content::Copying(copier) => return copier.answer(alloc, call, hold),
             Content::Encoding(encoder) => return encoder.answer(alloc, call, hold),
+            Content::Decoding(decoder) => return decoder.answer(alloc, call, hold),
         }
         match opened_kind(call) {
             Some(kind) => self.open(alloc, kind),
@@ -138,15 +141,29 @@ impl Slot {
         })
     }
 
-    /// A slot with a fresh context, where memory for it is found. There are no contexts yet that decode:
-    /// these find none.
+    /// A slot with a fresh decoder context, where memory for it is found.
+    fn decoding(alloc: Global) -> Option<Slot>
+        ensures { IfSome result (λ slot. slot ≡ Some (fresh_context Dec)) }
+    {
+        let Ok(decoder) = Decoder::make(alloc) else {
+            return None;
+        };
+        let Ok(decoder) = Box::new(alloc, decoder) else {
+            return None;
+        };
+        Some(Slot {
+            content: Content::Decoding(decoder),
+        })
+    }
+
+    /// A slot with a fresh context, where memory for it is found.
     fn opened(alloc: Global, kind: Kind) -> Option<Slot>
         ensures { IfSome result (λ slot. slot ≡ Some (fresh_context kind)) }
     {
         match kind {
             Kind::Copy => Slot::copying(alloc),
             Kind::Enc => Slot::encoding(alloc),
-            Kind::Dec => None,
+            Kind::Dec => Slot::decoding(alloc),
         }
     }
 
@@ -193,6 +210,7 @@ impl Slot {
             Content::Closed => None,
             Content::Copying(copier) => Some(copier.is_running()),
             Content::Encoding(encoder) => Some(encoder.is_running()),
+            Content::Decoding(decoder) => Some(decoder.is_running()),
         }
     }
 
@@ -205,6 +223,7 @@ impl Slot {
             Content::Closed => closed_refusal(call),
             Content::Copying(copier) => copier.refusal(call),
             Content::Encoding(encoder) => encoder.refusal(call),
+            Content::Decoding(decoder) => decoder.refusal(call),
         }
     }
 
@@ -216,6 +235,7 @@ impl Slot {
             Content::Closed => false,
             Content::Copying(copier) => copier.ready(),
             Content::Encoding(encoder) => encoder.ready(),
+            Content::Decoding(decoder) => decoder.ready(),
         }
     }
 
@@ -234,6 +254,7 @@ impl Slot {
             Content::Closed => unreachable!(),
             Content::Copying(copier) => Job::new(slot, copier.claim()),
             Content::Encoding(encoder) => Job::new(slot, encoder.claim()),
+            Content::Decoding(decoder) => Job::new(slot, decoder.claim()),
         }
     }
 
@@ -255,6 +276,7 @@ impl Slot {
             Content::Closed => unreachable!(),
             Content::Copying(copier) => copier.finish(work, outcome),
             Content::Encoding(encoder) => encoder.finish(work, outcome),
+            Content::Decoding(decoder) => decoder.finish(work, outcome),
         }
     }
 }

@@ -1,14 +1,14 @@
 -- What every claim on a decoder context has in common.
-use Rattle.std.proofs.Common.{ℕ, ◌≡◌, ◌≤◌, ◌<◌, ◌==◌, leb, nat_le, Bool, true, false, not, ◌&&◌, Option, Some, None, List, [], ◌∷◌, map, length, refl, sym, ap, ◌∙◌, subst, arith, leb-true}
+use Rattle.std.proofs.Common.{ℕ, ◌≡◌, ◌≤◌, ◌<◌, leb, nat_le, Bool, true, false, not, ◌&&◌, Option, Some, None, List, [], ◌∷◌, map, length, refl, sym, ap, ◌∙◌, subst, arith, leb-true}
 use Rattle.std.specs.Prelude.{is_none}
 use Rattle.std.specs.List.{list_all}
 use Rattle.std.proofs.lemmas.Bool.{false≢true, and_parts}
-use Rattle.vc_base.specs.Buffers.{Buffer, QueueState, is_empty, buffer_count, lend_after, lend_front, without_bytes, without_job_bytes}
+use Rattle.vc_base.specs.Buffers.{Buffer, QueueState, is_empty, buffer_count, lend_front, without_bytes, without_job_bytes}
 use Rattle.vc_base.specs.Events.{EventState}
 use Rattle.vc_defs.specs.declared.Geometry.{Geometry}
 use Rattle.vc_defs.specs.Decoder.{ReferenceState, DecoderState, kept_bytes}
 use Rattle.vc_defs.specs.Finds.{KeptBytes}
-use Rattle.vc_model.specs.Coder.{CodecState, decoder}
+use Rattle.vc_model.specs.Coder.{decoder}
 use Rattle.vc_model.specs.Formats.{FormatPair}
 use Rattle.vc_model.specs.Context.{Context, PhaseState, run, owe, last, stopped, is_run}
 use Rattle.vc_model.specs.Core.{claimed_in}

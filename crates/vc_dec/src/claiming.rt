@@ -65,13 +65,18 @@ fn decode_work(
     ensures work { (j : JobData) → IsRunOver j source dest taken.reference taken.assembly geometry format limit → IsWork j result }
     ensures fits { Fits result }
 {
+    let Taken {
+        reference,
+        assembly,
+    } = taken;
+    let source = source_of(source);
     Work {
         sort: Sort::Decode,
-        source: source_of(source),
+        source,
         dest: Some(dest_of(dest)),
-        reference: taken.reference,
+        reference,
         geometry,
-        assembly: taken.assembly,
+        assembly,
         format,
         limit,
         rates: RATES,
@@ -145,7 +150,10 @@ impl Decoder {
         });
         let reference = self.codec.lend_reference(length);
         let assembly = self.codec.lend_assembly();
-        let taken = Taken { reference, assembly };
+        let taken = Taken {
+            reference,
+            assembly,
+        };
         let limit = self.formats.out.size;
         decode_work(source, dest, taken, self.geometry, self.formats.cap, limit)
     }

@@ -7,7 +7,7 @@ use Rattle.vc_model.specs.Answer.{context_answer}
 use Rattle.vc_context.specs.Contexts.{GivesWithMemory}
 use Rattle.vc_core.specs.Slots.{IsAnswer}
 use Rattle.vc_context.specs.Payloads.{handed_over}
-use Rattle.vc_core.proofs.Slots.{closed_view, copying_view, encoding_view, open_answers, closed_refuses, opened_fits}
+use Rattle.vc_core.proofs.Slots.{closed_view, copying_view, encoding_view, decoding_view, open_answers, closed_refuses, opened_fits}
 use Rattle.vc_core.proofs.slot.Slot.answer.Goals as goal
 
 pub returns-in-Copying-clause-answers : goal.returns-in-Copying-clause-answers
@@ -25,3 +25,7 @@ returns-in-None-clause-answers c =
 pub returns-in-Encoding-clause-answers : goal.returns-in-Encoding-clause-answers
 returns-in-Encoding-clause-answers c =
     open_answers c.args.self.now c.in-Encoding.encoder.value c.answer-in-Encoding.new.self c.args.call.now (handed_over c.args.call.now c.args.hold.now) c.answer-in-Encoding.result (encoding_view c.self.inside.content c.args.self.now c.in-Encoding.encoder c.self.view_is c.in-Encoding.is) (subst (λ (x : Context). GivesWithMemory (context_answer x c.args.call.now (handed_over c.args.call.now c.args.hold.now)) c.answer-in-Encoding.result c.answer-in-Encoding.new.self) c.deref_mut-in-Encoding.ensures.value c.answer-in-Encoding.ensures.answers)
+
+pub returns-in-Decoding-clause-answers : goal.returns-in-Decoding-clause-answers
+returns-in-Decoding-clause-answers c =
+    open_answers c.args.self.now c.in-Decoding.decoder.value c.answer-in-Decoding.new.self c.args.call.now (handed_over c.args.call.now c.args.hold.now) c.answer-in-Decoding.result (decoding_view c.self.inside.content c.args.self.now c.in-Decoding.decoder c.self.view_is c.in-Decoding.is) (subst (λ (x : Context). GivesWithMemory (context_answer x c.args.call.now (handed_over c.args.call.now c.args.hold.now)) c.answer-in-Decoding.result c.answer-in-Decoding.new.self) c.deref_mut-in-Decoding.ensures.value c.answer-in-Decoding.ensures.answers)

@@ -3,7 +3,7 @@ use Rattle.vc_model.specs.Context.{Context}
 use Rattle.vc_model.specs.Answer.{context_answer}
 use Rattle.vc_model.specs.Core.{unless_memory}
 use Rattle.vc_core.proofs.Refusing.{slot_closed, slot_open}
-use Rattle.vc_core.proofs.Slots.{closed_view, copying_view, encoding_view}
+use Rattle.vc_core.proofs.Slots.{closed_view, copying_view, encoding_view, decoding_view}
 use Rattle.vc_core.proofs.slot.Slot.refusal.Goals as goal
 
 pub returns-in-Closed : goal.returns-in-Closed
@@ -17,3 +17,7 @@ returns-in-Copying c =
 pub returns-in-Encoding : goal.returns-in-Encoding
 returns-in-Encoding c =
     slot_open c.args.self.now c.in-Encoding.encoder.value c.args.call.now c.refusal-in-Encoding.result (encoding_view c.self.inside.content c.args.self.now c.in-Encoding.encoder c.self.view_is c.in-Encoding.is) (subst (λ (x : Context). c.refusal-in-Encoding.result ≡ unless_memory (context_answer x c.args.call.now [] false).reply) c.deref-in-Encoding.ensures c.refusal-in-Encoding.ensures)
+
+pub returns-in-Decoding : goal.returns-in-Decoding
+returns-in-Decoding c =
+    slot_open c.args.self.now c.in-Decoding.decoder.value c.args.call.now c.refusal-in-Decoding.result (decoding_view c.self.inside.content c.args.self.now c.in-Decoding.decoder c.self.view_is c.in-Decoding.is) (subst (λ (x : Context). c.refusal-in-Decoding.result ≡ unless_memory (context_answer x c.args.call.now [] false).reply) c.deref-in-Decoding.ensures c.refusal-in-Decoding.ensures)
