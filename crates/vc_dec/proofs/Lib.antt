@@ -1,6 +1,8 @@
 pub mod Answered
 pub mod Calling
 pub mod Creating
+pub mod Ending
+pub mod Fitting
 pub mod Layouts
 pub mod Made
 pub mod Noting

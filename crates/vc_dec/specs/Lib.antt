@@ -1,3 +1,4 @@
 pub mod Decoders
+pub mod Ends
 pub mod Parts
 pub mod Serving

@@ -15,6 +15,7 @@ ghost use Rattle.vc_context.specs.Payloads.{FitsContext, Moves, handed_over};
 mod buffers;
 mod codec;
 mod commands;
+mod finishing;
 mod formats;
 mod jobs;
 mod making;
