@@ -16,14 +16,18 @@ use Rattle.vc_base.specs.Buffers.{QueueState, is_empty, refuse_if, reqbufs_refus
 use Rattle.vc_model.specs.Context.{Context, PhaseState, run, owe, last, stopped, is_run, is_dec, is_enc, queue_of}
 use Rattle.vc_model.specs.Answer.{Answer, unless, refused, context_answer, command_answer, control_answer, with_control}
 use Rattle.vc_model.specs.Core.{unless_memory}
+use Rattle.vc_model.specs.Formats.{FormatPair}
 use Rattle.vc_model.specs.Runs.{is_claimable, front_is_due}
+use Rattle.vc_base.specs.Events.{EventState}
 use Rattle.vc_defs.specs.declared.Geometry.{Geometry}
+use Rattle.vc_defs.specs.Decoder.{DecoderState}
 use Rattle.vc_geom.specs.Pairs.{pair_of}
-use Rattle.vc_pair.specs.Pairs.{queue_at}
+use Rattle.vc_pair.specs.Pairs.{PairState, queue_at}
 use Rattle.vc_pair.specs.declared.Phase.{Phase}
 use Rattle.vc_pair.specs.Phases.{phase_alone}
 use Rattle.vc_pair.proofs.Rows.{same_due}
 use Rattle.vc_context.specs.Contexts.{Gives, GivesWithMemory, TakesMemory}
+use Rattle.vc_dec.specs.declared.InJob.{InJob}
 use Rattle.vc_dec.specs.declared.Decoder.TheInside.{Inside}
 use Rattle.vc_dec.specs.Decoders.{decoder_state, job_mark, is_run_alone, is_job_due}
 use Rattle.vc_dec.proofs.Made.{gives_found}
@@ -127,18 +131,18 @@ known_cases true true false false ce true = refl
 known_cases true true true false true true = refl
 known_cases true true true false false true = refl
 
-due_cases : (g : Option Geometry) (d : Inside) → d.geometry ≡ g → (is_none (job_mark d.job) && is_run d.pair.phase && is_job_due g d.pair) ≡ is_claimable (Some (decoder_state (pair_of d.formats) g d.pair d.events d.codec.state d.job))
+pub due_cases : (formats : FormatPair) (g : Option Geometry) (p : PairState) (events : EventState) (state : DecoderState) (job : Option InJob) → (is_none (job_mark job) && is_run p.phase && is_job_due g p) ≡ is_claimable (Some (decoder_state formats g p events state job))
 unfolding is_claimable
-due_cases None d e =
-    ap (λ b. (is_none (job_mark d.job) && is_run d.pair.phase) && (d.pair.out.streams && b)) (same_due d.pair.out.ready d.pair.mark)
-    ∙ unknown_cases (is_none (job_mark d.job)) d.pair.out.streams d.pair.cap.streams (is_empty d.pair.out.ready) (is_empty d.pair.cap.ready) (is_run d.pair.phase) (front_is_due d.pair.out.ready d.pair.mark)
-due_cases (Some geometry) d e =
-    known_cases (is_none (job_mark d.job)) d.pair.out.streams d.pair.cap.streams (is_empty d.pair.out.ready) (is_empty d.pair.cap.ready) (is_run d.pair.phase)
+due_cases formats None p events state job =
+    ap (λ b. (is_none (job_mark job) && is_run p.phase) && (p.out.streams && b)) (same_due p.out.ready p.mark)
+    ∙ unknown_cases (is_none (job_mark job)) p.out.streams p.cap.streams (is_empty p.out.ready) (is_empty p.cap.ready) (is_run p.phase) (front_is_due p.out.ready p.mark)
+due_cases formats (Some geometry) p events state job =
+    known_cases (is_none (job_mark job)) p.out.streams p.cap.streams (is_empty p.out.ready) (is_empty p.cap.ready) (is_run p.phase)
 
 module _ (d : Inside) (c : Context) (view : decoder_state (pair_of d.formats) d.geometry d.pair d.events d.codec.state d.job ≡ c) where
   due_is : (is_none (job_mark d.job) && is_run d.pair.phase && is_job_due d.geometry d.pair) ≡ is_claimable (Some c)
   due_is =
-      due_cases d.geometry d refl ∙ ap (λ (x : Context). is_claimable (Some x)) view
+      due_cases (pair_of d.formats) d.geometry d.pair d.events d.codec.state d.job ∙ ap (λ (x : Context). is_claimable (Some x)) view
 
   free_is : (b : Bool) (phase : Phase) → b ≡ (is_none (job_mark d.job) && is_run_alone phase) → phase ≡ phase_alone d.pair.phase → b ≡ (is_none (job_mark d.job) && is_run d.pair.phase)
   free_is b phase e ep =

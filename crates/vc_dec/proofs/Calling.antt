@@ -1,23 +1,31 @@
 -- What a call makes of one queue, beside settling.
-use Rattle.std.proofs.Common.{ℕ, ◌≡◌, ◌≤◌, ◌<◌, ◌+◌, eqb, nat_le, Bool, true, false, cond, not, Option, Some, None, List, [], ◌∷◌, ◌++◌, map, length, refl, ap, ◌∙◌, subst, arith, length-append}
+use Rattle.std.proofs.Common.{ℕ, ◌≡◌, ◌≤◌, ◌<◌, ◌+◌, eqb, eqb-true, le-leb, nat_le, Bool, true, false, cond, not, Option, Some, None, List, [], ◌∷◌, ◌++◌, map, length, refl, ap, ◌∙◌, subst, arith, length-append}
 use Rattle.std.specs.Prelude.{◌==◌}
 use Rattle.std.specs.List.{list_all, filter}
 use Rattle.std.proofs.lemmas.Bool.{and_parts, and_from}
 use Rattle.std.proofs.lemmas.List.Folds.{list_all-append, list_all-map}
+use Rattle.vc_base.specs.declared.Side.{Side}
+use Rattle.vc_base.specs.declared.Side.TheVariants.{Out, Cap}
 use Rattle.vc_base.specs.declared.Errno.{Errno}
 use Rattle.vc_base.specs.declared.Stamp.{Stamp}
 use Rattle.vc_base.specs.Buffers.{Buffer, QueueState, buffer_count, held_again, with_index, queued_buffer, queue_held, take_front, streamon_after, streamoff_after}
 use Rattle.vc_model.proofs.Queues.{length_back, queued_size}
 use Rattle.vc_queue.specs.Answers.{after_of}
 use Rattle.vc_context.specs.Contexts.{AreFilled}
-use Rattle.vc_dec.specs.Decoders.{AllLengths}
+use Rattle.vc_dec.specs.Decoders.{AllLengths, AreBegun, AreUntouched}
 
--- The queue counts up, its buffer in the job stays there, and what is done has room for what is used of it.
+-- No more bytes of the ready buffers were consumed than are used, and none of those that the user holds.
+pub record IsBegun (q : QueueState) : Type 0 where
+  pub ready : AreBegun q.ready
+  pub held : AreUntouched q.held
+
+-- The queue counts up, its buffer in the job stays there, what is done has room for what is used of it, and no bytes are consumed.
 pub record Counts (old new : QueueState) : Type 0 where
   pub queued : new.next_ordinal ≤ old.next_ordinal + 1
   pub retired : new.next_seq ≤ old.next_seq
   pub job : new.job ≡ old.job
   pub done : AreFilled old.done → AreFilled new.done
+  pub begun : IsBegun old → IsBegun new
 
 -- The queue counts up, and no buffer comes or goes.
 pub record Calls (old new : QueueState) : Type 0 where
@@ -27,7 +35,8 @@ pub record Calls (old new : QueueState) : Type 0 where
   pub lengths : (p : ℕ → Bool) → AllLengths p old → AllLengths p new
 
 pub no_change : (q : QueueState) → Counts q q
-no_change q = record { queued = omega arith; retired = omega arith; job = refl; done = λ h. h }
+no_change q =
+    record { queued = omega arith; retired = omega arith; job = refl; done = λ h. h; begun = λ h. h }
 
 pub after_counts : (o : Option Errno) (q r : QueueState) → Counts q r → Counts q (after_of o q r)
 after_counts (Some e) q r c = no_change q
@@ -44,7 +53,7 @@ after_calls None q r c = c
 pub on_calls : (q : QueueState) → Calls q (streamon_after q)
 on_calls q =
     record {
-      counts = record { queued = omega arith; retired = omega arith; job = refl; done = λ h. h };
+      counts = record { queued = omega arith; retired = omega arith; job = refl; done = λ h. h; begun = λ h. record { ready = h.ready; held = h.held } };
       gone = λ h. h;
       some = λ h. h;
       lengths = λ p a. record { held = a.held; ready = a.ready; job = a.job; done = a.done };
@@ -61,6 +70,10 @@ one_more p xs b x y = both p xs (b ∷ []) x (and_from (p b) true y refl)
 back_lengths : (p : ℕ → Bool) (bs : List Buffer) → list_all (λ b. p b.size) bs ≡ true → list_all (λ b. p b.size) (map held_again bs) ≡ true
 back_lengths p bs h = list_all-map (λ (b : Buffer). p b.size) held_again bs ∙ h
 
+back_untouched : (bs : List Buffer) → AreUntouched (map held_again bs)
+back_untouched [] = refl
+back_untouched (b ∷ bs) = back_untouched bs
+
 pub off_calls : (q : QueueState) → Calls q (streamoff_after q)
 off_calls q =
     let l1 = length-append (q.held ++ map held_again q.ready) (map held_again q.done) in
@@ -68,7 +81,7 @@ off_calls q =
     let l3 = length_back q.ready in
     let l4 = length_back q.done in
     record {
-      counts = record { queued = omega arith; retired = omega arith; job = refl; done = λ h. refl };
+      counts = record { queued = omega arith; retired = omega arith; job = refl; done = λ h. refl; begun = λ h. record { ready = refl; held = both (λ b. b.cursor == 0) (q.held ++ map held_again q.ready) (map held_again q.done) (both (λ b. b.cursor == 0) q.held (map held_again q.ready) h.held (back_untouched q.ready)) (back_untouched q.done) } };
       gone = λ h. omega arith;
       some = λ h. omega arith;
       lengths = λ p a. record {
@@ -85,7 +98,7 @@ taken_calls q (b ∷ rest) e =
     let l1 = length-append q.held (held_again b ∷ []) in
     let l2 = ap length e in
     record {
-      counts = record { queued = omega arith; retired = omega arith; job = refl; done = λ h. (and_parts (nat_le b.used b.size) (list_all (λ x. nat_le x.used x.size) rest) (subst AreFilled e h)).1 };
+      counts = record { queued = omega arith; retired = omega arith; job = refl; done = λ h. (and_parts (nat_le b.used b.size) (list_all (λ x. nat_le x.used x.size) rest) (subst AreFilled e h)).1; begun = λ h. record { ready = h.ready; held = one_more (λ x. x.cursor == 0) q.held (held_again b) h.held refl } };
       gone = λ h. omega arith;
       some = λ h. omega arith;
       lengths = λ p a. let d = and_parts (p b.size) (list_all (λ x. p x.size) rest) (subst (λ (bs : List Buffer). list_all (λ x. p x.size) bs ≡ true) e a.done) in record {
@@ -121,6 +134,13 @@ found_some : (bs : List Buffer) (index : ℕ) (b : Buffer) → with_index index 
 found_some [] index b e = absurd (cc)
 found_some (x ∷ xs) index b e = omega arith
 
+-- of a buffer that is queued nothing was consumed
+fresh_begun : (side : Side) (b : Buffer) (used : ℕ) (stamp : Stamp) (bytes : List ℕ) (ordinal : ℕ) → (b.cursor == 0) ≡ true → let x : Buffer = queued_buffer side b used stamp bytes ordinal in nat_le x.cursor x.used ≡ true
+fresh_begun Out b used stamp bytes ordinal e =
+    let z : b.cursor ≡ 0 = eqb-true b.cursor 0 e in le-leb b.cursor used (omega (arith, z))
+fresh_begun Cap b used stamp bytes ordinal e =
+    let z : b.cursor ≡ 0 = eqb-true b.cursor 0 e in le-leb b.cursor b.used (omega (arith, z))
+
 pub queued_calls : (q : QueueState) (index : ℕ) (f : Option Buffer) (used : ℕ) (stamp : Stamp) (bytes : List ℕ) → with_index index q.held ≡ f → Calls q (queue_held q index f used stamp bytes)
 queued_calls q index None used stamp bytes e = stays q
 queued_calls q index (Some b) used stamp bytes e =
@@ -129,7 +149,7 @@ queued_calls q index (Some b) used stamp bytes e =
     let l2 = found_some q.held index b e in
     let s : x.size ≡ b.size = queued_size q.side b used stamp bytes q.next_ordinal in
     record {
-      counts = record { queued = omega arith; retired = omega arith; job = refl; done = λ h. h };
+      counts = record { queued = omega arith; retired = omega arith; job = refl; done = λ h. h; begun = λ h. record { ready = one_more (λ y. nat_le y.cursor y.used) q.ready x h.ready (fresh_begun q.side b used stamp bytes q.next_ordinal (found_fits (λ y. y.cursor == 0) q.held index b e h.held)); held = kept_fit (λ y. y.cursor == 0) (λ y. not (y.index == index)) q.held h.held } };
       gone = λ h. absurd (omega arith);
       some = λ h. omega arith;
       lengths = λ p a. record {

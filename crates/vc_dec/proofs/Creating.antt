@@ -21,10 +21,10 @@ use Rattle.vc_resync.specs.Assembling.{AssemblyState}
 use Rattle.vc_context.specs.Contexts.{IsKept, IsStep, Gives, GivesWithMemory}
 use Rattle.vc_dec.specs.declared.InJob.{InJob}
 use Rattle.vc_dec.specs.declared.Decoder.TheInside.{Inside}
-use Rattle.vc_dec.specs.Decoders.{CodecParts, decoder_state, IsDecoder, IsPlaced, IsPictureOf, IsSupplied, AreServed, lent_room, serves, events_settled}
+use Rattle.vc_dec.specs.Decoders.{CodecParts, decoder_state, IsDecoder, IsPlaced, IsPictureOf, IsOfStream, IsSupplied, AreServed, lent_room, serves, events_settled}
 use Rattle.vc_dec.specs.Parts.{new_assembly, new_reference, supplied_with, rooms_with}
 use Rattle.vc_dec.proofs.Calling.{no_change}
-use Rattle.vc_dec.proofs.Serving.{CountsBoth, settle_at, same_jobs, agree_here, place, settled_so, knows_so, steps, supplied_cases}
+use Rattle.vc_dec.proofs.Serving.{CountsBoth, settle_at, same_jobs, agree_here, place, settled_so, begun_so, knows_so, steps, supplied_cases}
 use Rattle.vc_dec.proofs.Made.{made, unless_none, gives_found, gives_none, created_counts, created_gone, created_some, created_lengths, lengths_more, serves_front, serves_back, serves_one, serves_more}
 
 module _ (d : Inside) (c : Context) (view : decoder_state (pair_of d.formats) d.geometry d.pair d.events d.codec.state d.job ≡ c) (inv : IsDecoder (pair_of d.formats) d.geometry d.pair d.events d.codec d.job) where
@@ -120,6 +120,7 @@ module _ (d : Inside) (c : Context) (view : decoder_state (pair_of d.formats) d.
     pub sources_keeps : IsDecoder (pair_of d.formats) d.geometry new es codec d.job
     sources_keeps =
         let s = settled_so (pair_of d.formats) d.geometry d.pair d.events d.codec d.job inv q new es counts is_settled is_noted in
+        let b = begun_so (pair_of d.formats) d.geometry d.pair d.events d.codec d.job inv q new es counts is_settled is_noted in
         let rooms : codec.rooms ≡ d.codec.rooms = ap (λ (x : CodecParts). x.rooms) ec ∙ same_rooms assembly in
         record {
           stands = inv.stands;
@@ -127,6 +128,9 @@ module _ (d : Inside) (c : Context) (view : decoder_state (pair_of d.formats) d.
           placed = sources_placed;
           picture = subst (λ (x : DecoderState). IsPictureOf d.geometry x.reference) (sym same_state) inv.picture;
           fresh = λ z. same_state ∙ inv.fresh (created_gone d.pair.out count length (subst (λ (x : QueueState). buffer_count x ≡ 0) s.out z));
+          stream = subst (λ (x : DecoderState). IsOfStream d.formats.out.size d.geometry x d.job) (sym same_state) inv.stream;
+          begun = b.ready;
+          untouched = b.held;
           knows = knows_so (pair_of d.formats) d.geometry d.pair d.events d.codec d.job inv q new es counts is_settled is_noted (pair_of d.formats) d.geometry codec.state sources_placed;
           supplied = subst (λ (x : QueueState). IsSupplied d.formats.out.size x codec.limit d.job) (sym s.out) supplied_new;
           served = subst (λ (rs : List ℕ). AreServed (lent_room d.job ++ rs) new.cap) (sym rooms) (s.lengths _ inv.served);
@@ -147,6 +151,9 @@ module _ (d : Inside) (c : Context) (view : decoder_state (pair_of d.formats) d.
         placed = inv.placed;
         picture = inv.picture;
         fresh = inv.fresh;
+        stream = inv.stream;
+        begun = inv.begun;
+        untouched = inv.untouched;
         knows = inv.knows;
         supplied = inv.supplied;
         served = lengths_more _ _ (λ z. serves_more (lent_room d.job) d.codec.rooms (rooms_with r d.codec.rooms) z (rooms_more r d.codec.rooms z)) d.pair.cap inv.served;
@@ -223,6 +230,7 @@ module _ (d : Inside) (c : Context) (view : decoder_state (pair_of d.formats) d.
     pub dests_keeps : IsDecoder (pair_of d.formats) d.geometry new es codec d.job
     dests_keeps =
         let s = settled_so (pair_of d.formats) d.geometry d.pair d.events d.codec d.job inv to new es to_counts to_settled to_noted in
+        let b = begun_so (pair_of d.formats) d.geometry d.pair d.events d.codec d.job inv to new es to_counts to_settled to_noted in
         let placed : IsPlaced (at new es d.codec.state) = subst (λ (x : CodecParts). IsPlaced (at new es x.state)) ec dests_placed in
         rw ec (record {
           stands = inv.stands;
@@ -230,6 +238,9 @@ module _ (d : Inside) (c : Context) (view : decoder_state (pair_of d.formats) d.
           placed = placed;
           picture = inv.picture;
           fresh = λ z. inv.fresh (subst (λ (x : QueueState). buffer_count x ≡ 0) s.out z);
+          stream = inv.stream;
+          begun = b.ready;
+          untouched = b.held;
           knows = knows_so (pair_of d.formats) d.geometry d.pair d.events d.codec d.job inv to new es to_counts to_settled to_noted (pair_of d.formats) d.geometry codec.state dests_placed;
           supplied = supplied_cases d.job d.formats.out.size d.pair.out new.out d.codec.limit (λ h. subst (λ (x : QueueState). 0 < buffer_count x) s.out h) inv.supplied;
           served = s.lengths _ served_new;

@@ -1,6 +1,9 @@
 pub mod Answered
 pub mod Calling
+pub mod Changing
+pub mod Claims
 pub mod Creating
+pub mod DecodeRuns
 pub mod Ending
 pub mod Fitting
 pub mod Layouts
@@ -8,6 +11,7 @@ pub mod Made
 pub mod Noting
 pub mod Opening
 pub mod Placing
+pub mod Probes
 pub mod Queueing
 pub mod Requesting
 pub mod Rows

@@ -24,9 +24,9 @@ use Rattle.vc_event.specs.Answers.{answer_of, after_of}
 use Rattle.vc_context.specs.Contexts.{IsKept, Gives, told_of, taken_or_blocked}
 use Rattle.vc_dec.specs.declared.InJob.{InJob}
 use Rattle.vc_dec.specs.declared.Decoder.TheInside.{Inside}
-use Rattle.vc_dec.specs.Decoders.{decoder_state, IsDecoder, IsPlaced, IsPictureOf, IsSupplied, geometry_after}
+use Rattle.vc_dec.specs.Decoders.{decoder_state, IsDecoder, IsPlaced, IsPictureOf, IsOfStream, IsSupplied, geometry_after}
 use Rattle.vc_dec.specs.Serving.{Serves}
-use Rattle.vc_dec.proofs.Serving.{settle_at, still_at, quiet_here, agree_here, place}
+use Rattle.vc_dec.proofs.Serving.{settle_at, still_at, quiet_here, agree_here, place, begins_anew}
 use Rattle.vc_dec.proofs.Layouts.{set_sized}
 
 module _ (d : Inside) (c : Context) (view : decoder_state (pair_of d.formats) d.geometry d.pair d.events d.codec.state d.job ≡ c) (inv : IsDecoder (pair_of d.formats) d.geometry d.pair d.events d.codec d.job) where
@@ -51,6 +51,9 @@ module _ (d : Inside) (c : Context) (view : decoder_state (pair_of d.formats) d.
         placed = placed;
         picture = inv.picture;
         fresh = inv.fresh;
+        stream = inv.stream;
+        begun = inv.begun;
+        untouched = inv.untouched;
         knows = inv.knows;
         supplied = inv.supplied;
         served = inv.served;
@@ -180,6 +183,11 @@ module _ (d : Inside) (c : Context) (view : decoder_state (pair_of d.formats) d.
     picture_cases Out h = subst (λ (x : DecoderState). IsPictureOf None x.reference) (sym (h refl)) tt
     picture_cases Cap h = inv.picture
 
+    stream_at : (s : Side) (j : Option InJob) → (s ≡ Out → d.codec.state ≡ fresh_decoder) → IsOfStream d.formats.out.size d.geometry d.codec.state j → IsOfStream (formats_for Dec s (pair_of d.formats) want).out.size (geometry_after s d.geometry) d.codec.state j
+    stream_at Out j f h =
+        subst (λ (x : DecoderState). IsOfStream (formats_for Dec Out (pair_of d.formats) want).out.size None x j) (sym (f refl)) (begins_anew _ None j)
+    stream_at Cap j f h = h
+
     supplied_at : (s : Side) (j : Option InJob) → (s ≡ Out → buffer_count d.pair.out ≡ 0) → IsSupplied d.formats.out.size d.pair.out d.codec.limit j → IsSupplied (formats_for Dec s (pair_of d.formats) want).out.size d.pair.out d.codec.limit j
     supplied_at Out None n h = λ some. let z = n refl in absurd (omega arith)
     supplied_at Cap None n h = h
@@ -193,6 +201,9 @@ module _ (d : Inside) (c : Context) (view : decoder_state (pair_of d.formats) d.
           placed = set_placed;
           picture = rw eg (picture_cases side (λ e. inv.fresh (no_sources side free_here e)));
           fresh = inv.fresh;
+          stream = rw (ef, eg) (stream_at side d.job (λ e. inv.fresh (no_sources side free_here e)) inv.stream);
+          begun = inv.begun;
+          untouched = inv.untouched;
           knows = inv.knows;
           supplied = rw ef (supplied_at side d.job (no_sources side free_here) inv.supplied);
           served = inv.served;

@@ -7,6 +7,7 @@ use Rattle.vc_defs.specs.Decoder.{fresh_decoder}
 use Rattle.vc_model.specs.Formats.{FormatPair, formats_at_open}
 use Rattle.vc_geom.specs.Pairs.{CanStand}
 use Rattle.vc_pair.specs.Pairs.{PairState, new_pair}
+use Rattle.vc_work.proofs.Streams.{begins_in_step}
 use Rattle.vc_dec.specs.Decoders.{CodecParts, IsDecoder}
 use Rattle.vc_dec.proofs.Placing.{fresh_placed}
 
@@ -22,6 +23,9 @@ fresh_is h =
       placed = fresh_placed;
       picture = tt;
       fresh = λ _. refl;
+      stream = begins_in_step _ None;
+      begun = refl;
+      untouched = refl;
       knows = tt;
       supplied = λ (some : 0 < buffer_count new_pair.out). absurd (omega arith);
       served = record { held = refl; ready = refl; job = refl; done = refl };

@@ -9,10 +9,14 @@ use Rattle.vc_base.specs.declared.Call.TheVariants.{Open}
 use Rattle.vc_base.specs.Buffers.{Buffer, is_empty, without_bytes}
 use Rattle.vc_model.specs.Context.{Context, Slot, Running, PhaseState, run, owe, last, stopped, is_run, is_drained, fresh_context}
 use Rattle.vc_model.specs.Answer.{Answer, answer, closed_answer, context_answer}
-use Rattle.vc_model.specs.Sound.{HasItsBuffers, IsOrderedSlot, IsSoundButUnsettled, IsSettled as IsSettledContext, last_not_given}
+use Rattle.vc_model.specs.Sound.{HasItsBuffers, IsOrdered, IsOrderedSlot, IsSoundButUnsettled, IsSettled as IsSettledContext, last_not_given}
 use Rattle.vc_model.specs.Standing.{some_job, without_job, without_data_of, core_answer}
 use Rattle.vc_model.proofs.Answering.{answer_sound}
-use Rattle.vc_model.proofs.Hiding.{answers_without_job}
+use Rattle.vc_model.specs.Coder.{the_coder}
+use Rattle.vc_model.specs.Runs.{is_claimable, after_claim}
+use Rattle.vc_model.specs.Solo.{Claims, claim_step, solo_step}
+use Rattle.vc_model.proofs.Ending.{step_sound}
+use Rattle.vc_model.proofs.Hiding.{answers_without_job, without_none}
 use Rattle.vc_pair.specs.Pairs.{IsSettled, is_held_back}
 use Rattle.vc_pair.specs.Rows.{pair_of, JobsAgree}
 use Rattle.vc_dec.specs.Decoders.{IsPlaced}
@@ -113,6 +117,25 @@ runs c p e =
     let w : Context = p.whole in
     let busy : is_none w.running ≡ false = sym (whole_running w w.running refl) ∙ (ap (λ (x : Context). is_none x.running) p.without ∙ e) in
     subst (λ (x : Context). is_run x.phase ≡ true) p.without (whole_runs w w.running p.ordered.firm.has_buffers busy)
+
+-- while no job runs the context is one of the device itself
+pub ordered_idle : (c : Context) → IsPlaced c → c.running ≡ None → IsOrdered c
+ordered_idle c p e =
+    let w : Context = p.whole in
+    let none : is_none w.running ≡ true = sym (whole_running w w.running refl) ∙ (ap (λ (x : Context). is_none x.running) p.without ∙ ap is_none e) in
+    let same : w ≡ c = sym (without_none w (none_runs w.running none)) ∙ p.without in
+    subst IsOrdered same p.ordered
+  where
+    none_runs : (o : Option Running) → is_none o ≡ true → o ≡ None
+    none_runs None h = refl
+    none_runs (Some r) h = cc
+
+-- a claim leaves it in its place
+pub claim_placed : (c : Context) → IsOrdered c → is_claimable (Some c) ≡ true → IsPlaced (without_job (after_claim c))
+unfolding solo_step
+claim_placed c o e =
+    let step : IsOrderedSlot (claim_step (Some c) (is_claimable (Some c))).slot = step_sound the_coder (Some c) Claims o in
+    record { whole = after_claim c; ordered = subst (λ b. IsOrderedSlot (claim_step (Some c) b).slot) e step; without = refl }
 
 -- a queue that does not stream has nothing in the job
 

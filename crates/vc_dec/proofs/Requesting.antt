@@ -26,7 +26,7 @@ use Rattle.vc_dec.specs.Decoders.{CodecParts, decoder_state, job_mark, IsDecoder
 use Rattle.vc_dec.specs.Parts.{begun, limit_of, new_assembly, new_reference, rooms_after, CanTakeOver}
 use Rattle.vc_dec.proofs.Calling.{no_change}
 use Rattle.vc_dec.proofs.Placing.{out_rests, cap_rests}
-use Rattle.vc_dec.proofs.Serving.{CountsBoth, settle_at, same_jobs, agree_here, place, settled_so, knows_so, steps, supplied_cases}
+use Rattle.vc_dec.proofs.Serving.{CountsBoth, settle_at, same_jobs, agree_here, place, settled_so, begun_so, knows_so, steps, begins_anew, supplied_cases}
 use Rattle.vc_dec.proofs.Made.{made, no_step, unless_none, gives_found, requested_counts, requested_some, requested_lengths, serves_back, serves_one, has_room}
 
 -- a queue without a refusal does not stream
@@ -127,6 +127,7 @@ module _ (d : Inside) (c : Context) (view : decoder_state (pair_of d.formats) d.
     pub sources_keeps : IsDecoder (pair_of d.formats) None new es codec d.job
     sources_keeps =
         let s = settled_so (pair_of d.formats) d.geometry d.pair d.events d.codec d.job inv q new es counts is_settled is_noted in
+        let b = begun_so (pair_of d.formats) d.geometry d.pair d.events d.codec d.job inv q new es counts is_settled is_noted in
         let placed : IsPlaced (decoder_state (pair_of d.formats) None new es fresh_decoder d.job) = subst (λ (x : CodecParts). IsPlaced (decoder_state (pair_of d.formats) None new es x.state d.job)) ec sources_placed in
         rw ec (record {
           stands = inv.stands;
@@ -134,6 +135,9 @@ module _ (d : Inside) (c : Context) (view : decoder_state (pair_of d.formats) d.
           placed = placed;
           picture = tt;
           fresh = λ _. refl;
+          stream = begins_anew d.formats.out.size None d.job;
+          begun = b.ready;
+          untouched = b.held;
           knows = knows_so (pair_of d.formats) d.geometry d.pair d.events d.codec d.job inv q new es counts is_settled is_noted (pair_of d.formats) None codec.state sources_placed;
           supplied = supplied_if d.job d.formats.out.size new.out (limit_of assembly) supplied_new;
           served = s.lengths _ inv.served;
@@ -205,6 +209,7 @@ module _ (d : Inside) (c : Context) (view : decoder_state (pair_of d.formats) d.
     pub dests_keeps : IsDecoder (pair_of d.formats) d.geometry new es codec d.job
     dests_keeps =
         let s = settled_so (pair_of d.formats) d.geometry d.pair d.events d.codec d.job inv to new es to_counts to_settled to_noted in
+        let b = begun_so (pair_of d.formats) d.geometry d.pair d.events d.codec d.job inv to new es to_counts to_settled to_noted in
         let placed : IsPlaced (decoder_state (pair_of d.formats) d.geometry new es d.codec.state d.job) = subst (λ (x : CodecParts). IsPlaced (decoder_state (pair_of d.formats) d.geometry new es x.state d.job)) ec dests_placed in
         rw ec (record {
           stands = inv.stands;
@@ -212,6 +217,9 @@ module _ (d : Inside) (c : Context) (view : decoder_state (pair_of d.formats) d.
           placed = placed;
           picture = inv.picture;
           fresh = λ z. inv.fresh (subst (λ (x : QueueState). buffer_count x ≡ 0) s.out z);
+          stream = inv.stream;
+          begun = b.ready;
+          untouched = b.held;
           knows = knows_so (pair_of d.formats) d.geometry d.pair d.events d.codec d.job inv to new es to_counts to_settled to_noted (pair_of d.formats) d.geometry codec.state dests_placed;
           supplied = supplied_cases d.job d.formats.out.size d.pair.out new.out d.codec.limit (λ h. subst (λ (x : QueueState). 0 < buffer_count x) s.out h) inv.supplied;
           served = s.lengths _ served_new;

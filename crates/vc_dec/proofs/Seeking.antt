@@ -22,9 +22,9 @@ use Rattle.vc_context.specs.Contexts.{IsKept, IsStep, Gives}
 use Rattle.vc_context.specs.Payloads.{Moves, given_back}
 use Rattle.vc_dec.specs.declared.InJob.{InJob}
 use Rattle.vc_dec.specs.declared.Decoder.TheInside.{Inside}
-use Rattle.vc_dec.specs.Decoders.{CodecParts, decoder_state, IsDecoder, IsPlaced, IsPictureOf, events_settled, sought_anew}
+use Rattle.vc_dec.specs.Decoders.{CodecParts, decoder_state, IsDecoder, IsPlaced, IsPictureOf, IsOfStream, events_settled, sought_anew}
 use Rattle.vc_dec.proofs.Calling.{off_calls}
-use Rattle.vc_dec.proofs.Serving.{Turns, counted, turns_out, turns_cap, settle_at, same_jobs, agree_here, place, steps, knows_so, gone_so, supplied_so, served_so}
+use Rattle.vc_dec.proofs.Serving.{Turns, counted, turns_out, turns_cap, settle_at, same_jobs, agree_here, place, begun_so, steps, begins_anew, knows_so, gone_so, supplied_so, served_so}
 
 -- StreamOff on the queues
 
@@ -102,9 +102,14 @@ module _ (d : Inside) (c : Context) (view : decoder_state (pair_of d.formats) d.
   fresh_cases Out e = refl
   fresh_cases Cap e = e
 
+  stream_cases : (s : Side) → IsOfStream d.formats.out.size d.geometry (sought_anew s d.codec.state) d.job
+  stream_cases Out = begins_anew d.formats.out.size d.geometry d.job
+  stream_cases Cap = inv.stream
+
   pub off_keeps : IsDecoder (pair_of d.formats) d.geometry new es codec d.job
   off_keeps =
       let gone = gone_so (pair_of d.formats) d.geometry d.pair d.events d.codec d.job inv mid new es off_turns_mid en ee in
+      let b = begun_so (pair_of d.formats) d.geometry d.pair d.events d.codec d.job inv mid new es (counted d.pair mid off_turns_mid) en ee in
       let placed : IsPlaced (decoder_state (pair_of d.formats) d.geometry new es (sought_anew side d.codec.state) d.job) = subst (λ (x : CodecParts). IsPlaced (decoder_state (pair_of d.formats) d.geometry new es x.state d.job)) ec off_placed in
       rw ec (record {
         stands = inv.stands;
@@ -112,6 +117,9 @@ module _ (d : Inside) (c : Context) (view : decoder_state (pair_of d.formats) d.
         placed = placed;
         picture = picture_cases side;
         fresh = λ z. fresh_cases side (inv.fresh (gone z));
+        stream = stream_cases side;
+        begun = b.ready;
+        untouched = b.held;
         knows = knows_so (pair_of d.formats) d.geometry d.pair d.events d.codec d.job inv mid new es (counted d.pair mid off_turns_mid) en ee (pair_of d.formats) d.geometry codec.state off_placed;
         supplied = supplied_so (pair_of d.formats) d.geometry d.pair d.events d.codec d.job inv mid new es off_turns_mid en ee;
         served = served_so (pair_of d.formats) d.geometry d.pair d.events d.codec d.job inv mid new es off_turns_mid en ee;

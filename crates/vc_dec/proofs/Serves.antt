@@ -27,3 +27,8 @@ module _ (assembly : Option AssemblyState) (present : Option CodecReference) (ot
   pub others_serve : (b o : Bool) → b ≡ serves (room_of present) length → b ≡ false → o ≡ list_any (λ (r : CodecReference). r.size == length) others → o ≡ serves parts.rooms length
   others_serve b o e f g =
       g ∙ sym (parts_split ∙ ap (λ x. x || list_any (λ (r : CodecReference). r.size == length) others) (sym e ∙ f))
+
+  -- where the present one does not serve, another one does
+  pub others_have : (b : Bool) → b ≡ serves (room_of present) length → b ≡ false → serves parts.rooms length ≡ true → list_any (λ (r : CodecReference). r.size == length) others ≡ true
+  others_have b e f h =
+      ap (λ x. x || list_any (λ (r : CodecReference). r.size == length) others) (sym f ∙ e) ∙ (sym parts_split ∙ h)

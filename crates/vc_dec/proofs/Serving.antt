@@ -9,7 +9,7 @@ use Rattle.vc_base.specs.declared.Reply.{Reply}
 use Rattle.vc_base.specs.Buffers.{Buffer, QueueState, is_empty, buffer_count}
 use Rattle.vc_base.specs.Events.{EventState}
 use Rattle.vc_defs.specs.declared.Geometry.{Geometry}
-use Rattle.vc_defs.specs.Decoder.{DecoderState}
+use Rattle.vc_defs.specs.Decoder.{DecoderState, fresh_decoder}
 use Rattle.vc_model.specs.Formats.{FormatPair}
 use Rattle.vc_model.specs.Context.{Context, settle, is_run}
 use Rattle.vc_model.specs.Answer.{Answer, unless, answered, context_answer}
@@ -22,11 +22,12 @@ use Rattle.vc_queue.specs.Answers.{answer_of, after_of}
 use Rattle.vc_queue.specs.Holds.{HoldState}
 use Rattle.vc_context.specs.Contexts.{AreFilled, IsKept, IsStep, Gives, told_of}
 use Rattle.vc_context.specs.Payloads.{FitsContext}
+use Rattle.vc_work.proofs.Streams.{begins_in_step}
 use Rattle.vc_dec.specs.declared.InJob.{InJob}
-use Rattle.vc_dec.specs.Decoders.{CodecParts, decoder_state, job_mark, IsDecoder, IsPlaced, KnowsItsJob, IsDestOf, IsSupplied, AreServed, lent_room, end_raised, events_settled}
+use Rattle.vc_dec.specs.Decoders.{CodecParts, decoder_state, job_mark, IsDecoder, IsPlaced, IsOfStream, KnowsItsJob, IsDestOf, IsSupplied, AreServed, lent_room, end_raised, events_settled}
 use Rattle.vc_dec.specs.Serving.{Serves}
 use Rattle.vc_dec.proofs.Placing.{placed_answer, agrees, settled, sides, runs}
-use Rattle.vc_dec.proofs.Calling.{Counts, Calls, stays}
+use Rattle.vc_dec.proofs.Calling.{IsBegun, Counts, Calls, stays}
 use Rattle.vc_dec.proofs.Settled.{Settles, settles, stays_in_run, ended_raised}
 
 -- how a call counts in the two queues
@@ -85,6 +86,11 @@ pub supplied_cases : (j : Option InJob) (size : ℕ) (out new : QueueState) (lim
 supplied_cases None size out new limit f s = λ h. s (f h)
 supplied_cases (Some x) size out new limit f s = tt
 
+-- a codec that begins anew is in step with its geometry
+pub begins_anew : (limit : ℕ) (geometry : Option Geometry) (j : Option InJob) → IsOfStream limit geometry fresh_decoder j
+begins_anew limit geometry None = begins_in_step limit geometry
+begins_anew limit geometry (Some x) = tt
+
 module _ (formats : FormatPair) (geometry : Option Geometry) (state : DecoderState) (job : Option InJob) where
   abbrev at : PairState → EventState → Context
   at p e = decoder_state formats geometry p e state job
@@ -136,6 +142,10 @@ module _ (formats : FormatPair) (geometry : Option Geometry) (p : PairState) (ev
     raised_so : es.next_seq ≤ events.next_seq + 1
     raised_so =
         subst (λ (x : EventState). x.next_seq ≤ events.next_seq + 1) (sym ee) (ended_raised (raises_end q) events)
+
+    pub begun_so : IsBegun new.out
+    begun_so =
+        subst IsBegun (sym settled_so.out) (t.out.begun (record { ready = inv.begun; held = inv.untouched }))
 
     -- whatever becomes of formats, geometry and codec
     module _ (f : FormatPair) (g : Option Geometry) (state : DecoderState) (placed : IsPlaced (decoder_state f g new es state job)) where
@@ -209,6 +219,9 @@ module _ (formats : FormatPair) (geometry : Option Geometry) (p : PairState) (ev
           placed = placed;
           picture = inv.picture;
           fresh = λ z. inv.fresh (gone_so z);
+          stream = inv.stream;
+          begun = (begun_so q new es (counted p q t) en ee).ready;
+          untouched = (begun_so q new es (counted p q t) en ee).held;
           knows = knows_so q new es (counted p q t) en ee formats geometry parts.state placed;
           supplied = supplied_so;
           served = served_so;

@@ -2,3 +2,4 @@ pub mod Decoders
 pub mod Ends
 pub mod Parts
 pub mod Serving
+pub mod Works

@@ -18,13 +18,17 @@ abbrev pub room_of : Option CodecReference → List ℕ
 room_of None = []
 room_of (Some r) = r.size ∷ []
 
+-- for how long buffers the references are, the present one first
+abbrev pub rooms_of : Option CodecReference → List CodecReference → List ℕ
+rooms_of present others = room_of present ++ map (λ (r : CodecReference). r.size) others
+
 -- The picture is in the present reference. The other ones serve buffers of other lengths.
 abbrev pub parts_of : Option AssemblyState → Option CodecReference → List CodecReference → CodecParts
 parts_of assembly present others =
     record {
       state = decoder_of (picture_of present) (kept_of assembly);
       limit = limit_of assembly;
-      rooms = room_of present ++ map (λ (r : CodecReference). r.size) others;
+      rooms = rooms_of present others;
       present = is_some present;
     }
 

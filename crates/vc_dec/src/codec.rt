@@ -6,7 +6,10 @@ ghost use Rattle.vc_defs.specs.Decoder.{fresh_decoder};
 ghost use Rattle.vc_defs.specs.Finds.{nothing_kept};
 ghost use Rattle.vc_work.specs.Streams.{kept_of};
 ghost use Rattle.vc_dec.specs.Decoders.{serves};
-ghost use Rattle.vc_dec.specs.Parts.{no_parts, begun, room_of, limit_of, supplied_with, replaced_by, rooms_with, CanTakeOver, FindsItsPlace, taken_back, new_assembly, new_reference};
+ghost use Rattle.vc_dec.specs.Parts.{no_parts, begun, room_of, limit_of, supplied_with, replaced_by, rooms_with, CanTakeOver, new_assembly, new_reference};
+
+mod lending;
+mod returning;
 
 use std::alloc::Global;
 use std::marker::Model;
@@ -71,11 +74,11 @@ fn one_serves(references: &[Reference], length: u32) -> bool
 }
 
 /// Whether the reference, where there is one, is as long as that.
-fn is_as_long(reference: &Option<Reference>, length: u32) -> bool
+fn is_as_long(reference: &Option<Reference>, length: usize) -> bool
     ensures { result ≡ serves (room_of reference.now) length }
 {
     match reference {
-        Some(reference) => reference.room() == length as usize,
+        Some(reference) => reference.room() == length,
         None => false,
     }
 }
@@ -129,7 +132,7 @@ impl Codec {
     pub(crate) fn serves(&self, length: u32) -> bool
         ensures { result ≡ serves self.now.rooms length }
     {
-        is_as_long(&self.present, length) || one_serves(&self.others, length)
+        is_as_long(&self.present, length as usize) || one_serves(&self.others, length)
     }
 
     /// Puts a reference, where there is one, in the place of all that are there. It takes the picture over.
@@ -145,18 +148,6 @@ impl Codec {
         }
         self.present = Some(reference);
         self.others.clear();
-    }
-
-    /// Takes back what went along with a job: the assembly, and in a run the reference with its picture, which is
-    /// the present one then.
-    pub(crate) fn take_back(&mut self, assembly: Option<Assembly>, reference: Option<Reference>)
-        requires { FindsItsPlace reference self.old.present }
-        ensures { self.new ≡ taken_back assembly reference self.old }
-    {
-        self.assembly = assembly;
-        if reference.is_some() {
-            self.present = reference;
-        }
     }
 
     /// Keeps one more reference, where there is one.

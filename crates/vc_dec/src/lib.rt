@@ -13,6 +13,7 @@ ghost use Rattle.vc_context.specs.Contexts.{HasRoom, GivesWithMemory, IsKept, Is
 ghost use Rattle.vc_context.specs.Payloads.{FitsContext, Moves, handed_over};
 
 mod buffers;
+mod claiming;
 mod codec;
 mod commands;
 mod finishing;
@@ -39,7 +40,7 @@ use vc_queue::hold::Hold;
 #[derive(Clone, Copy, Debug, PartialEq, Eq)]
 struct Dest {
     index: u32,
-    length: u32,
+    length: usize,
 }
 
 /// The buffers of the running job: the index of the OUTPUT buffer and, but in a probe, the CAPTURE buffer.

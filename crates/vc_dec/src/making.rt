@@ -27,7 +27,7 @@ fn lent_serves(job: Option<InJob>, length: u32) -> bool
                 source: _,
                 dest: Some(dest),
             },
-        ) => dest.length == length,
+        ) => dest.length == length as usize,
         Some(
             InJob {
                 source: _,

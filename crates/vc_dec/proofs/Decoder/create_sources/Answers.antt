@@ -6,7 +6,7 @@ use Rattle.vc_base.specs.declared.Reply.TheVariants.{Refused}
 use Rattle.vc_base.specs.Buffers.{QueueState, buffer_count, create_refusal}
 use Rattle.vc_dec.proofs.Made.{no_refusal, unmade_out}
 use Rattle.vc_dec.proofs.Creating.{sources_gives, sources_steps, sources_keeps, none_gives}
-use Rattle.vc_dec.proofs.Requesting.{same_steps}
+use Rattle.vc_dec.proofs.Requesting.{same_steps, same_keeps}
 use Rattle.vc_dec.proofs.Decoder.create_sources.Goals as goal
 
 pub returns-in_default-create-clause-answers : goal.returns-in_default-create-clause-answers
@@ -16,6 +16,10 @@ returns-in_default-create-clause-answers c =
 pub returns-in_default-create-clause-step : goal.returns-in_default-create-clause-step
 returns-in_default-create-clause-step c =
     same_steps c.self.inside c.args.self.now c.self.view_is c.self.invariant c.create.new.self c.self.inside.codec.state (unmade_out c.self.inside.pair c.create.new.self _ _ _ _ c.in_default-create.ensures.answer (no_refusal (create_refusal c.self.inside.pair.out c.args.count c.args.length) c.create_refusal.result (c.create_refusal.ensures ∙ ap (λ (q : QueueState). option_map Refused (create_refusal q c.args.count c.args.length)) c.queue.ensures) c.in_default.is) c.in_default-create.ensures.rest) refl c.requires.kept
+
+pub invariant_of-self : goal.invariant_of-self
+invariant_of-self c =
+    same_keeps c.self.inside c.args.self.now c.self.view_is c.self.invariant c.create.new.self (unmade_out c.self.inside.pair c.create.new.self _ _ _ _ c.in_default-create.ensures.answer (no_refusal (create_refusal c.self.inside.pair.out c.args.count c.args.length) c.create_refusal.result (c.create_refusal.ensures ∙ ap (λ (q : QueueState). option_map Refused (create_refusal q c.args.count c.args.length)) c.queue.ensures) c.in_default.is) c.in_default-create.ensures.rest)
 
 pub invariant_of-self-2 : goal.invariant_of-self-2
 invariant_of-self-2 c =

@@ -3,12 +3,16 @@ use Rattle.std.specs.Option.{option_map}
 use Rattle.vc_base.specs.declared.Reply.TheVariants.{Refused}
 use Rattle.vc_base.specs.Buffers.{QueueState, reqbufs_refusal}
 use Rattle.vc_dec.proofs.Made.{no_refusal, unmade_out}
-use Rattle.vc_dec.proofs.Requesting.{sources_gives, sources_steps, sources_keeps, same_steps}
+use Rattle.vc_dec.proofs.Requesting.{sources_gives, sources_steps, sources_keeps, same_steps, same_keeps}
 use Rattle.vc_dec.proofs.Decoder.request_sources.Goals as goal
 
 pub returns-in_default-reqbufs-clause-step : goal.returns-in_default-reqbufs-clause-step
 returns-in_default-reqbufs-clause-step c =
     same_steps c.self.inside c.args.self.now c.self.view_is c.self.invariant c.reqbufs.new.self c.self.inside.codec.state (unmade_out c.self.inside.pair c.reqbufs.new.self _ _ _ _ c.in_default-reqbufs.ensures.answer (no_refusal (reqbufs_refusal c.self.inside.pair.out) c.reqbufs_refusal.result (c.reqbufs_refusal.ensures ∙ ap (λ (q : QueueState). option_map Refused (reqbufs_refusal q)) c.queue.ensures) c.in_default.is) c.in_default-reqbufs.ensures.rest) refl c.requires.kept
+
+pub invariant_of-self : goal.invariant_of-self
+invariant_of-self c =
+    same_keeps c.self.inside c.args.self.now c.self.view_is c.self.invariant c.reqbufs.new.self (unmade_out c.self.inside.pair c.reqbufs.new.self _ _ _ _ c.in_default-reqbufs.ensures.answer (no_refusal (reqbufs_refusal c.self.inside.pair.out) c.reqbufs_refusal.result (c.reqbufs_refusal.ensures ∙ ap (λ (q : QueueState). option_map Refused (reqbufs_refusal q)) c.queue.ensures) c.in_default.is) c.in_default-reqbufs.ensures.rest)
 
 pub invariant_of-self-2 : goal.invariant_of-self-2
 invariant_of-self-2 c =
