@@ -1,5 +1,5 @@
 -- Laws of jobs.
-use Rattle.std.specs.Prelude.{◌≡◌, is_err, Result, IfOk}
+use Rattle.std.specs.Prelude.{is_err, Result, IfOk}
 use Rattle.vc_model.specs.Coder.{the_coder}
 use Rattle.vc_model.specs.Runs.{JobData}
 use Rattle.vc_model.specs.Core.{brought_back}

@@ -6,6 +6,7 @@
 #![tactic(auto)]
 
 pub mod jobs;
+pub mod laws;
 pub mod refusals;
 pub mod replies;
 #[cfg(test)]

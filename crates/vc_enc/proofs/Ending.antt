@@ -12,7 +12,7 @@ use Rattle.vc_base.specs.Events.{EventState}
 use Rattle.vc_defs.specs.Encoder.{RunRates, EncoderState}
 use Rattle.vc_model.specs.Formats.{FormatPair}
 use Rattle.vc_model.specs.Coder.{CodecState, no_codec, encoder, decoder, reset}
-use Rattle.vc_model.specs.Context.{Context, PhaseState, run, last, is_run, is_drained, copy, encode, drain, settle}
+use Rattle.vc_model.specs.Context.{Context, PhaseState, run, last, is_run, is_drained, RunSort, copy, encode, decode, probe, drain, settle}
 use Rattle.vc_model.specs.Runs.{JobData, RunResult, copied, encoded, decoded, dest_done, type_flag}
 use Rattle.vc_model.specs.Core.{BroughtBack, finished_context}
 use Rattle.vc_model.specs.Sound.{HasCodec, AreLong, dest_count, has_dest}
@@ -22,7 +22,7 @@ use Rattle.vc_queue.specs.Lending.{IsBack as IsLentBack, back_bytes}
 use Rattle.vc_queue.proofs.Keeping.{fits_retired}
 use Rattle.vc_work.specs.declared.work.Work.{Work}
 use Rattle.vc_work.specs.declared.engine.Outcome.{Outcome}
-use Rattle.vc_work.specs.declared.engine.Outcome.TheVariants.{Copied, Encoded}
+use Rattle.vc_work.specs.declared.engine.Outcome.TheVariants.{Copied, Encoded, Picture, Damaged, Changed, Spent}
 use Rattle.vc_work.specs.declared.engine.EngineFault.{EngineFault}
 use Rattle.vc_work.specs.References.{CodecReference}
 use Rattle.vc_work.specs.Runs.{dest_bytes, HasReference, HasGeometry, format_geometry}
@@ -31,7 +31,7 @@ use Rattle.vc_pair.specs.Rows.{IsRunFlag, keyframe, pframe, error, JobsAgree}
 use Rattle.vc_pair.proofs.Rows.{same_retired}
 use Rattle.vc_context.specs.Contexts.{AreFilled, IsKept, IsStep}
 use Rattle.vc_context.specs.Payloads.{FitsContext}
-use Rattle.vc_context.specs.Works.{IsSourceBack, IsDest, HasFront, HasState, HasRoomFor as HasRoomForPicture, HasAreas, IsResult, IsBack, IsBackOf, RunsIn}
+use Rattle.vc_context.specs.Works.{IsSourceBack, IsDest, HasFront, HasState, HasRoomFor as HasRoomForPicture, HasAreas, is_decoding, IsResult, IsBack, IsBackOf, RunsIn}
 use Rattle.vc_context.proofs.Going.{HasRoomFor, Goes, retired_goes, retired_ready}
 use Rattle.vc_enc.specs.declared.InJob.{InJob}
 use Rattle.vc_enc.specs.declared.jobs.RunEnd.{RunEnd}
@@ -138,12 +138,42 @@ state_there : (state : EncoderState) (reference : Option CodecReference) → Has
 state_there state None h = absurd h
 state_there state (Some r) h = ap encoder (sym h)
 
+-- an encoder's run gives a frame and nothing else
+abbrev IsFrame : Outcome → Option RunResult → Type 0
+IsFrame (Encoded used key) (Some (encoded frame)) = Unit {0}
+IsFrame outcome result = ⊥
+
+copies_none : copy ≡ encode → ⊥
+copies_none e = cc
+
+decodes_none : (run : RunSort) → run ≡ encode → is_decoding run ≡ true → ⊥
+decodes_none copy e d = cc
+decodes_none encode e d = false≢true d
+decodes_none decode e d = cc
+decodes_none probe e d = cc
+
+frames_only : (j : JobData) (work : Work) (res : Option RunResult) (o : Outcome) → j.sort ≡ encode → IsResult res j work (Ok o) → IsFrame o res
+frames_only j work None o e i = absurd i
+frames_only j work (Some (copied bytes)) (Copied used) e i = absurd (copies_none (sym i.0 ∙ e))
+frames_only j work (Some (copied bytes)) (Encoded used key) e i = absurd i
+frames_only j work (Some (copied bytes)) (Picture used key stamp) e i = absurd i
+frames_only j work (Some (copied bytes)) (Damaged stamp) e i = absurd i
+frames_only j work (Some (copied bytes)) (Changed geometry) e i = absurd i
+frames_only j work (Some (copied bytes)) Spent e i = absurd i
+frames_only j work (Some (encoded frame)) (Encoded used key) e i = tt
+frames_only j work (Some (encoded frame)) (Copied used) e i = absurd i
+frames_only j work (Some (encoded frame)) (Picture used key stamp) e i = absurd i
+frames_only j work (Some (encoded frame)) (Damaged stamp) e i = absurd i
+frames_only j work (Some (encoded frame)) (Changed geometry) e i = absurd i
+frames_only j work (Some (encoded frame)) Spent e i = absurd i
+frames_only j work (Some (decoded step)) o e i = absurd (decodes_none j.sort e i.0)
+
 -- the reference that comes back is one for the format
 
-room_there : (codec : CodecState) (format : Format) (work : Work) → HasCodec Enc codec → HasAreas codec format work → HasRoomForPicture format work.reference
-room_there no_codec format work h a = absurd h
-room_there (encoder state) format work h a = a
-room_there (decoder state) format work h a = absurd h
+room_there : (codec : CodecState) (j : JobData) (work : Work) → HasCodec Enc codec → HasAreas codec j work → HasRoomForPicture j.format work.reference
+room_there no_codec j work h a = absurd h
+room_there (encoder state) j work h a = a
+room_there (decoder state) j work h a = absurd h
 
 anew_reference : (format : Format) (reference : Option CodecReference) → HasRoomForPicture format reference → HasReference format (anew_where true reference)
 anew_reference format None h = absurd h
@@ -254,17 +284,10 @@ module _ (formats : FormatPair) (rates : RunRates) (p : PairState) (events : Eve
           let same : first error_flag ≡ q = first_is j error_flag (take j.source.used work.source.payload.items) runs refl ∙ ap (λ (o : QueueState). record p { out = o }) (retired_error p.out p.out.job j.source.used (take j.source.used work.source.payload.items) j.source.bytes j.source.stamp k.out_side) in
           let moved : encoder_state formats rates (cap_retired (first error_flag) 0 [] error_flag work.source.stamp) (end_raised (is_final (first error_flag)) events) (anew_where true work.reference) None ≡ encoder_state formats rates (cap_retired q 0 [] error_flag work.source.stamp) (end_raised (is_final q) events) (anew_where true work.reference) None = ap (λ (y : PairState). encoder_state formats rates (cap_retired y 0 [] error_flag work.source.stamp) (end_raised (is_final y) events) (anew_where true work.reference) None) same in
           moved ∙ rw s.stamp (sym (end_is (anew_where true work.reference) q (reset j.codec) j.dest 0 [] error_flag j.source.stamp known.0 (emptied p.out p.out.job j.source.used j.source.bytes error_flag j.source.stamp refl) error (anew_codec j.codec work.reference runs.codec) (one j runs)))
-      after_at j None (Ok (Copied used)) runs s i = absurd i
       after_at j None (Ok (Encoded used key)) runs s i = absurd i
       after_at j (Some (copied bytes)) (Err fault) runs s i = absurd i
-      after_at j (Some (copied bytes)) (Ok (Copied used)) runs s i =
-          absurd (never_copies (sym i.0 ∙ runs.run.sort))
-        where
-          never_copies : copy ≡ encode → ⊥
-          never_copies e = cc
       after_at j (Some (copied bytes)) (Ok (Encoded used key)) runs s i = absurd i
       after_at j (Some (encoded frame)) (Err fault) runs s i = absurd i
-      after_at j (Some (encoded frame)) (Ok (Copied used)) runs s i = absurd i
       after_at j (Some (encoded frame)) (Ok (Encoded used key)) runs s i =
           let q : PairState = record p { out = retire_after p.out j.source.used j.source.bytes 0 j.source.stamp } in
           let same : first 0 ≡ q = first_is j 0 j.source.bytes runs i.1.bytes.source_bytes in
@@ -273,8 +296,18 @@ module _ (formats : FormatPair) (rates : RunRates) (p : PairState) (events : Eve
           let moved : encoder_state formats rates (cap_retired (first 0) used (take used dest.payload.items) flag work.source.stamp) (end_raised (is_final (first 0)) events) work.reference None ≡ encoder_state formats rates (cap_retired q used (take used dest.payload.items) flag work.source.stamp) (end_raised (is_final q) events) work.reference None = ap (λ (y : PairState). encoder_state formats rates (cap_retired y used (take used dest.payload.items) flag work.source.stamp) (end_raised (is_final y) events) work.reference None) same in
           moved ∙ rw (s.stamp, i.1.bytes.told, front, i.1.told_key) (sym (end_is work.reference q (encoder frame.state) j.dest (length frame.bytes) frame.bytes (type_flag frame.key) j.source.stamp known.0 (emptied p.out p.out.job j.source.used j.source.bytes 0 j.source.stamp refl) (frame_flag frame.key) (state_there frame.state work.reference i.1.state) (one j runs)))
       after_at j (Some (decoded step)) (Err fault) runs s i = absurd i
-      after_at j (Some (decoded step)) (Ok (Copied used)) runs s i = absurd i
-      after_at j (Some (decoded step)) (Ok (Encoded used key)) runs s i = absurd i
+      after_at j (Some (decoded step)) (Ok (Encoded used key)) runs s i =
+          absurd (frames_only j work (Some (decoded step)) (Encoded used key) runs.run.sort i)
+      after_at j res (Ok (Copied used)) runs s i =
+          absurd (frames_only j work res (Copied used) runs.run.sort i)
+      after_at j res (Ok (Picture used key stamp)) runs s i =
+          absurd (frames_only j work res (Picture used key stamp) runs.run.sort i)
+      after_at j res (Ok (Damaged stamp)) runs s i =
+          absurd (frames_only j work res (Damaged stamp) runs.run.sort i)
+      after_at j res (Ok (Changed geometry)) runs s i =
+          absurd (frames_only j work res (Changed geometry) runs.run.sort i)
+      after_at j res (Ok Spent) runs s i =
+          absurd (frames_only j work res Spent runs.run.sort i)
 
       pub finish_after : (back : BroughtBack) → RunsIn c back.job → IsBack back work outcome → encoder_state formats rates final (end_raised (is_final (first end.source_flags)) events) (anew_where end.fault work.reference) None ≡ finished_context c back
       finish_after back runs is =
@@ -306,16 +339,25 @@ module _ (formats : FormatPair) (rates : RunRates) (p : PairState) (events : Eve
       format_is : (j : JobData) → RunsIn here j → j.format ≡ formats.out
       format_is j runs = runs.run.format (ap has_dest runs.run.sort)
 
-      reference_at : (j : JobData) (res : Option RunResult) (o : Result Outcome EngineFault) → RunsIn here j → HasAreas j.codec j.format work → IsResult res j work o → HasReference j.format (anew_where (end_of o).fault work.reference)
+      reference_at : (j : JobData) (res : Option RunResult) (o : Result Outcome EngineFault) → RunsIn here j → HasAreas j.codec j work → IsResult res j work o → HasReference j.format (anew_where (end_of o).fault work.reference)
       reference_at j res (Err fault) runs a i =
-          anew_reference j.format work.reference (room_there j.codec j.format work runs.codec a)
+          anew_reference j.format work.reference (room_there j.codec j work runs.codec a)
       reference_at j res (Ok (Copied used)) runs a i =
-          anew_reference j.format work.reference (room_there j.codec j.format work runs.codec a)
+          absurd (frames_only j work res (Copied used) runs.run.sort i)
+      reference_at j res (Ok (Picture used key stamp)) runs a i =
+          absurd (frames_only j work res (Picture used key stamp) runs.run.sort i)
+      reference_at j res (Ok (Damaged stamp)) runs a i =
+          absurd (frames_only j work res (Damaged stamp) runs.run.sort i)
+      reference_at j res (Ok (Changed geometry)) runs a i =
+          absurd (frames_only j work res (Changed geometry) runs.run.sort i)
+      reference_at j res (Ok Spent) runs a i =
+          absurd (frames_only j work res Spent runs.run.sort i)
       reference_at j None (Ok (Encoded used key)) runs a i = absurd i
       reference_at j (Some (copied bytes)) (Ok (Encoded used key)) runs a i = absurd i
       reference_at j (Some (encoded frame)) (Ok (Encoded used key)) runs a i =
-          frame_reference j.format frame.state work.reference (room_there j.codec j.format work runs.codec a) i.1.state i.1.picture
-      reference_at j (Some (decoded step)) (Ok (Encoded used key)) runs a i = absurd i
+          frame_reference j.format frame.state work.reference (room_there j.codec j work runs.codec a) i.1.state i.1.picture
+      reference_at j (Some (decoded step)) (Ok (Encoded used key)) runs a i =
+          absurd (frames_only j work (Some (decoded step)) (Encoded used key) runs.run.sort i)
 
       pub finish_kept : IsBackOf c work outcome → IsEncoder formats final (anew_where end.fault work.reference) None
       finish_kept of =
@@ -339,15 +381,20 @@ module _ (formats : FormatPair) (rates : RunRates) (p : PairState) (events : Eve
 
       -- the finish is a step
 
-      used_room : (j : JobData) (res : Option RunResult) (o : Result Outcome EngineFault) → IsResult res j work o → (end_of o).used ≤ length payload
-      used_room j res (Err fault) i = omega arith
-      used_room j res (Ok (Copied used)) i = omega arith
-      used_room j None (Ok (Encoded used key)) i = absurd i
-      used_room j (Some (copied bytes)) (Ok (Encoded used key)) i = absurd i
-      used_room j (Some (encoded frame)) (Ok (Encoded used key)) i =
+      used_room : (j : JobData) (res : Option RunResult) (o : Result Outcome EngineFault) → j.sort ≡ encode → IsResult res j work o → (end_of o).used ≤ length payload
+      used_room j res (Err fault) e i = omega arith
+      used_room j res (Ok (Copied used)) e i = omega arith
+      used_room j res (Ok (Picture used key stamp)) e i = omega arith
+      used_room j res (Ok (Damaged stamp)) e i = omega arith
+      used_room j res (Ok (Changed geometry)) e i = omega arith
+      used_room j res (Ok Spent) e i = omega arith
+      used_room j None (Ok (Encoded used key)) e i = absurd i
+      used_room j (Some (copied bytes)) (Ok (Encoded used key)) e i = absurd i
+      used_room j (Some (encoded frame)) (Ok (Encoded used key)) e i =
           let n : length frame.bytes ≤ length payload = front_room frame.bytes payload (subst (HasFront frame.bytes) there i.1.bytes.front) in
           omega (arith, n, i.1.bytes.told)
-      used_room j (Some (decoded step)) (Ok (Encoded used key)) i = absurd i
+      used_room j (Some (decoded step)) (Ok (Encoded used key)) e i =
+          absurd (frames_only j work (Some (decoded step)) (Encoded used key) e i)
 
       pub finish_step : (raised : Bool) → IsBackOf c work outcome → IsStep c (encoder_state formats rates final (end_raised raised events) (anew_where end.fault work.reference) None)
       finish_step raised of =
@@ -362,7 +409,7 @@ module _ (formats : FormatPair) (rates : RunRates) (p : PairState) (events : Eve
           let oq : final.out.next_ordinal ≡ p.out.next_ordinal = ap (λ (y : QueueState). y.next_ordinal) out_is ∙ retired_queued p.out p.out.job j.source.used taken end.source_flags j.source.stamp in
           let ready : AreFilled final.out.ready = subst (λ (y : QueueState). AreFilled y.ready) (sym out_is) (subst AreFilled (sym (retired_ready p.out p.out.job j.source.used taken end.source_flags j.source.stamp)) k.filled) in
           let d = only of in
-          let used : end.used ≤ length payload = used_room j of.back.result outcome of.is_back.came_to in
+          let used : end.used ≤ length payload = used_room j of.back.result outcome runs.run.sort of.is_back.came_to in
           let room : HasRoomFor end.used p.cap.job = dest_room p.cap.job d.0 end.used d.1 (omega (arith, used, d.2)) in
           let q : Goes p.cap final.cap = either_cap (λ (y : QueueState). Goes p.cap y) (is_final left) left _ _ _ (retired_goes p.cap end.used bytes _ work.source.stamp room) (retired_goes p.cap end.used bytes end.dest_flags work.source.stamp room) in
           let qq : final.cap.next_ordinal ≡ p.cap.next_ordinal = either_cap (λ (y : QueueState). y.next_ordinal ≡ p.cap.next_ordinal) (is_final left) left _ _ _ (retired_queued p.cap p.cap.job end.used bytes _ work.source.stamp) (retired_queued p.cap p.cap.job end.used bytes end.dest_flags work.source.stamp) in

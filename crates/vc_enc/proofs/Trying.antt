@@ -21,18 +21,6 @@ use Rattle.vc_context.specs.Contexts.{IsCounted, HasRoom}
 source_back : (j : JobData) (work : Work) → IsWork j work → IsSourceBack j.source work.source
 source_back j work w = record { used = w.source.used; stamp = w.source.stamp; size = w.source.size }
 
-room_in : (format : Format) (reference : Option CodecReference) → HasReference format reference → HasRoomFor format reference
-room_in format None h = h
-room_in format (Some r) h = h.0
-
-areas : (codec : CodecState) (s : Sort) (format : Format) (work : Work) → work.format ≡ format → IsCodec codec s work.reference → HasAll s work → HasAreas codec format work
-areas no_codec s format work e c h = tt
-areas (encoder state) sort.Copy format work e c h = absurd c
-areas (encoder state) sort.Encode format work e c h =
-    subst (λ (f : Format). HasRoomFor f work.reference) e (room_in work.format work.reference h.reference)
-areas (decoder state) sort.Copy format work e c h = absurd c
-areas (decoder state) sort.Encode format work e c h = absurd c
-
 -- the engine gave up
 pub fault_back : (c : Context) (o : Option JobData) (work : Work) (fault : EngineFault) → IsWorkWith o work → Fits work → RunsInWith c o → IsBackOf c work (Err fault)
 fault_back c None work fault w f r = absurd w
@@ -40,7 +28,7 @@ fault_back c (Some j) work fault w f r =
     record {
       back = record { job = j; result = None };
       runs = r;
-      is_back = record { source = source_back j work w; dest = w.dest; areas = areas j.codec work.sort j.format work w.format w.codec f.all; came_to = tt };
+      is_back = record { source = source_back j work w; dest = w.dest; areas = w.areas; came_to = tt };
     }
 
 encodes : (run : RunSort) (s : Sort) → run ≡ encode → IsSort run s → s ≡ sort.Encode
@@ -76,7 +64,7 @@ frame_back c (Some j) work key e w f r =
       is_back = record {
         source = source_back j work w;
         dest = w.dest;
-        areas = areas j.codec work.sort j.format work w.format w.codec f.all;
+        areas = w.areas;
         came_to = (
           run,
           record {

@@ -1,5 +1,5 @@
 -- The work of an encoder's job (docs/DEVICE.md, "Runs"; "Encoding" of the stateful encoder).
-use Rattle.std.specs.Prelude.{◌≡◌, ◌≤◌, ◌+◌, vec_len, length, true, false, if◌then◌else◌, Option, Some, None, Result, Ok, Err}
+use Rattle.std.specs.Prelude.{◌≡◌, ◌≤◌, ◌+◌, vec_len, length, true, false, if◌then◌else◌, Option, Some, None, Result, Ok}
 use Rattle.vc_base.specs.declared.Format.{Format}
 use Rattle.vc_base.specs.Buffers.{keyframe_flag, pframe_flag, error_flag}
 use Rattle.vc_defs.specs.Bodies.{padded_sum}
@@ -13,7 +13,7 @@ use Rattle.vc_work.specs.References.{CodecReference}
 use Rattle.vc_work.specs.Runs.{HasReference, coder_state, format_geometry, run_rates}
 use Rattle.vc_work.specs.declared.work.Rates.{Rates}
 use Rattle.vc_work.specs.declared.engine.Outcome.{Outcome}
-use Rattle.vc_work.specs.declared.engine.Outcome.TheVariants.{Copied, Encoded}
+use Rattle.vc_work.specs.declared.engine.Outcome.TheVariants.{Encoded}
 use Rattle.vc_work.specs.declared.engine.EngineFault.{EngineFault}
 use Rattle.vc_context.specs.Works.{IsDest}
 use Rattle.vc_enc.specs.declared.jobs.RunEnd.{RunEnd}
@@ -43,7 +43,5 @@ pub record CanEncode (source_lent dest_lent : Lent) (reference : Option CodecRef
 abbrev pub end_of : Result Outcome EngineFault → RunEnd
 end_of (Ok (Encoded used key)) =
     record { used = used; source_flags = 0; dest_flags = if key then keyframe_flag else pframe_flag; fault = false }
-end_of (Ok (Copied used)) =
-    record { used = 0; source_flags = error_flag; dest_flags = error_flag; fault = true }
-end_of (Err fault) =
+end_of other =
     record { used = 0; source_flags = error_flag; dest_flags = error_flag; fault = true }

@@ -95,6 +95,7 @@ fn encode_work(
         dest: Some(dest_of(dest)),
         reference,
         geometry: None,
+        assembly: None,
         format,
         limit,
         rates,

@@ -47,3 +47,8 @@ kept_of (Some a) = a.kept
 abbrev pub HasStream : ℕ → Option Geometry → Option ReferenceState → Option AssemblyState → Type 0
 HasStream limit geometry picture None = ⊥
 HasStream limit geometry picture (Some a) = (a.limit ≡ limit) × IsInStep limit geometry picture a.kept
+
+-- The picture that is kept is of the stream's geometry.
+abbrev pub KeepsGeometry : Type 0
+KeepsGeometry = (limit : ℕ) (geometry : Option Geometry) (r : ReferenceState) (kept : KeptBytes) →
+    IsInStep limit geometry (Some r) kept → geometry ≡ Some r.geometry

@@ -1,0 +1,5 @@
+use Rattle.vc_context.proofs.Running.{runs_are_back}
+use Rattle.vc_context.proofs.laws.runs_are_back.Goals as goal
+
+pub returns : goal.returns
+returns c = runs_are_back
