@@ -4,6 +4,8 @@ pub mod Changing
 pub mod Claims
 pub mod Creating
 pub mod DecodeRuns
+pub mod Ending
+pub mod Fitting
 pub mod Layouts
 pub mod Made
 pub mod Noting
