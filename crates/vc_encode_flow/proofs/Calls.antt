@@ -83,7 +83,7 @@ alike_under_way f c y g h l m a (inl x) =
 alike_under_way f c y g h l m a (inr x) =
     inr (record { coded = x.coded; lost = x.lost; others = x.others; queued = x.queued; front = x.front; bad = x.bad; back = x.back; done = a.done ∙ x.done; frames = x.frames; good = x.good; flag = x.flag; counted = x.counted })
 
-pub is_quiet : Call → Bool
+unfoldable pub is_quiet : Call → Bool
 is_quiet (QBuf Cap index used stamp) = true
 is_quiet (DqBuf Out block) = true
 is_quiet (StreamOn side) = true
