@@ -147,3 +147,7 @@ quiet_flow start f request bytes told handed new q a =
     let e = effect_of c request bytes a.found (ordered start f a.before a.flow) in
     let y = quiet_effect c w.phase w.mark q e in
     call_flow start f f request bytes told handed new y.0 a y.1 (alike_encodes f c y.0 y.2 w) (alike_under_way f c y.0 (good_finishes start) (good_finishes a.before) (fault_finishes start) (fault_finishes a.before) y.2 a.flow.under_way) (sym (append-nil (joined f.taken)) ∙ ap (λ (l : List ℕ). joined f.taken ++ l) (sym (hands_nothing request told handed q)))
+
+pub quiet_dq : (block : Bool) → is_quiet (DqBuf Out block) ≡ true
+unfolding is_quiet
+quiet_dq block = refl

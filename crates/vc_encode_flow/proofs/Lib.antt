@@ -3,5 +3,8 @@ pub mod Blank
 pub mod Calls
 pub mod Encoding
 pub mod Events
+pub mod Filling
 pub mod Frames
 pub mod Pictures
+pub mod Setting
+pub mod Taken

@@ -4,7 +4,9 @@
 //! the slot hands out to a sink.
 #![tactic(auto)]
 
+mod collecting;
 mod ends;
+mod feeding;
 mod opening;
 
 pub use ends::FlowEnd;
