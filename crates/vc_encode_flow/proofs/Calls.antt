@@ -83,7 +83,7 @@ alike_under_way f c y g h l m a (inl x) =
 alike_under_way f c y g h l m a (inr x) =
     inr (record { coded = x.coded; lost = x.lost; others = x.others; queued = x.queued; front = x.front; bad = x.bad; back = x.back; done = a.done ∙ x.done; frames = x.frames; good = x.good; flag = x.flag; counted = x.counted })
 
-pub is_quiet : Call → Bool
+unfoldable pub is_quiet : Call → Bool
 is_quiet (QBuf Cap index used stamp) = true
 is_quiet (DqBuf Out block) = true
 is_quiet (StreamOn side) = true
@@ -147,3 +147,7 @@ quiet_flow start f request bytes told handed new q a =
     let e = effect_of c request bytes a.found (ordered start f a.before a.flow) in
     let y = quiet_effect c w.phase w.mark q e in
     call_flow start f f request bytes told handed new y.0 a y.1 (alike_encodes f c y.0 y.2 w) (alike_under_way f c y.0 (good_finishes start) (good_finishes a.before) (fault_finishes start) (fault_finishes a.before) y.2 a.flow.under_way) (sym (append-nil (joined f.taken)) ∙ ap (λ (l : List ℕ). joined f.taken ++ l) (sym (hands_nothing request told handed q)))
+
+pub quiet_dq : (block : Bool) → is_quiet (DqBuf Out block) ≡ true
+unfolding is_quiet
+quiet_dq block = refl

@@ -1,6 +1,10 @@
+pub mod Asking
+pub mod Blank
 pub mod Calls
 pub mod Encoding
 pub mod Events
+pub mod Filling
 pub mod Frames
-pub mod Opening
 pub mod Pictures
+pub mod Setting
+pub mod Taken

@@ -29,6 +29,7 @@ use Rattle.vc_encode_flow.specs.Flows.{FlowSoFar, with_picture, with_frame, faul
 use Rattle.vc_encode_flow.proofs.Encoding.{settled_same}
 use Rattle.vc_encode_flow.proofs.Events.{IsAsked, call_flow}
 use Rattle.vc_encode_flow.proofs.Calls.{ordered}
+use Rattle.vc_encode_flow.proofs.Blank.{faults_later}
 use Rattle.vc_encode_flow.proofs.Frames.{frames_append}
 
 -- Queueing a picture
@@ -192,3 +193,13 @@ frame_flow start f block index used flags seq stamp handed new e a =
     let good : has_error t.front.flags ≡ false = ap has_error t.flags_are ∙ e in
     let u = whole_under_way f c t.front t.rest (good_finishes start) (good_finishes a.before) (fault_finishes start) (fault_finishes a.before) t.there good a.flow.under_way in
     call_flow start f (with_frame f handed) (DqBuf Cap block) [] (Taken index used flags seq stamp) handed new y a t.slot (record { kind = w.kind; format = w.format; rates = w.rates; phase = w.phase; mark = w.mark; runs = w.runs }) (subst (λ (l : List ℕ). IsUnderWay (with_frame f l) y (good_finishes start) (good_finishes a.before) (fault_finishes start) (fault_finishes a.before)) same u) (joined_more f.taken handed)
+
+pub frame_fault : (start : List SoloEvent) (f : FlowSoFar) (block : Bool) (index used flags seq : ℕ) (stamp : Stamp) (handed : List ℕ) (new : List SoloEvent) → has_error flags ≡ true → IsAsked start f (DqBuf Cap block) [] (Taken index used flags seq stamp) handed new → fault_finishes start < fault_finishes new
+frame_fault start f block index used flags seq stamp handed new e a =
+    let c = a.flow.context in
+    let w = a.flow.encodes in
+    let t = takes c block [] a.found index used flags seq stamp w.phase w.mark a.reply in
+    let bad : has_error t.front.flags ≡ true = ap has_error t.flags_are ∙ e in
+    let shown = fault_shown f c t.front t.rest (good_finishes start) (good_finishes a.before) (fault_finishes start) (fault_finishes a.before) t.there bad a.flow.under_way in
+    let same = ap fault_finishes a.events in
+    omega (arith, same, shown, faults_later a.before (Called (DqBuf Cap block) [] a.found ∷ []))

@@ -122,6 +122,10 @@ pub record HasBegun (f : FlowSoFar) : Type 0 where
 abbrev pub IsKept : Format → Type 0
 IsKept format = (formats_for Enc Out (formats_at_open Enc) format).out ≡ format
 
--- what was handed out stays, and maybe more was
-abbrev pub HandedMore : List SoloEvent → List SoloEvent → Type 0
-HandedMore old new = (more : List ℕ) × (bytes_out new ≡ bytes_out old ++ more)
+-- the flow over a slot whose format and rates were set
+abbrev pub flow_of : Format → RunRates → FlowSoFar
+flow_of format rates = record { format = format; rates = rates; queued = []; taken = [] }
+
+-- since the start these bytes were handed out first
+abbrev pub HandedFirst : List SoloEvent → List ℕ → List SoloEvent → Type 0
+HandedFirst start bytes events = (more : List ℕ) × (bytes_out events ≡ bytes_out start ++ (bytes ++ more))

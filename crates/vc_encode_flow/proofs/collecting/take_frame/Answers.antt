@@ -1,0 +1,36 @@
+use Rattle.std.proofs.Common.{◌≡◌, true, false, refl, sym, ◌∙◌}
+use Rattle.vc_model.specs.Places.{has_error}
+use Rattle.vc_encode_flow.proofs.Asking.{hands_first}
+use Rattle.vc_encode_flow.proofs.Taken.{there, is_taken, fault_taken}
+use Rattle.vc_encode_flow.proofs.collecting.take_frame.Goals as goal
+
+pub returns-then-is_failed-clause-engine : goal.returns-then-is_failed-clause-engine
+returns-then-is_failed-clause-engine g c = λ start f w e.
+  let failed : has_error c.in-Taken.flags ≡ true = cc in
+  fault_taken start f _ _ _ _ _ _ _ _ _ _ failed c.in-Taken.ensures.does w
+
+pub returns-then-is_failed-clause-hands : goal.returns-then-is_failed-clause-hands
+returns-then-is_failed-clause-hands g c = λ start bytes h. hands_first start bytes _ _ _ _ _ _ c.wait_on.ensures.does h
+
+pub returns-else-is_failed-clause-there : goal.returns-else-is_failed-clause-there
+returns-else-is_failed-clause-there g c = there _ _ _ _ _ _ _ _ _ _ c.in-Taken.ensures.does c.wait_on.ensures.fit
+
+pub returns-else-is_failed-clause-flow : goal.returns-else-is_failed-clause-flow
+returns-else-is_failed-clause-flow g c = λ start f w.
+  let fine : has_error c.in-Taken.flags ≡ false = cc in
+  is_taken start f _ _ _ _ _ _ _ _ _ _ fine c.in-Taken.ensures.does c.wait_on.ensures.fit w
+
+pub returns-else-is_failed-clause-hands : goal.returns-else-is_failed-clause-hands
+returns-else-is_failed-clause-hands g c = λ start bytes h. hands_first start bytes _ _ _ _ _ _ c.wait_on.ensures.does h
+
+pub returns-in_default : goal.returns-in_default
+returns-in_default g c =
+    record {
+      ready = c.wait_on.ensures.ready;
+      follows = c.wait_on.ensures.follows;
+      there = tt;
+      flow = λ start f w. tt;
+      engine = λ start f w e. absurd (cc);
+      hands = λ start bytes h. hands_first start bytes _ _ _ _ _ _ c.wait_on.ensures.does h;
+      stops = (λ e. absurd (cc), λ e. absurd (cc), λ e. absurd (cc));
+    }

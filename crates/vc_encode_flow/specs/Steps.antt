@@ -1,0 +1,45 @@
+-- Where a flow is between its steps, and where it is when it stops early.
+use Rattle.std.specs.Prelude.{ℕ, ◌≡◌, ◌≤◌, ◌<◌, take, length, Option, Some, None, List, [], ◌∷◌, ◌++◌}
+use Rattle.std.specs.Io.KnownBytes.{Appends, Consumes, IsAtEnd}
+use Rattle.vc_model.specs.Solo.{SoloEvent}
+use Rattle.vc_port.specs.Payloads.{good_finishes, bytes_out}
+use Rattle.vc_encode_flow.specs.Frames.{joined}
+use Rattle.vc_encode_flow.specs.Flows.{FlowSoFar, frames_for, IsFlow, HandedFirst}
+
+-- all frames that were handed out were written
+pub record IsAt (start : List SoloEvent) (f : FlowSoFar) (first written : Option (List ℕ)) (events : List SoloEvent) : Type 0 where
+  pub flow : IsFlow start f events
+  pub wrote : Appends first written (joined f.taken)
+
+-- What was written is a front of the bytes handed out, and of the frames of the pictures that were queued.
+pub record StopsEarly (start : List SoloEvent) (f : FlowSoFar) (first written : Option (List ℕ)) (events : List SoloEvent) : Type 0 where
+  pub bytes : List ℕ
+  pub wrote : Appends first written bytes
+  pub handed : HandedFirst start bytes events
+  pub others : List ℕ
+  pub frames : joined (frames_for f f.queued) ≡ bytes ++ others
+
+abbrev pub with_frames : FlowSoFar → List (List ℕ) → FlowSoFar
+with_frames f frames = record f { taken = f.taken ++ frames }
+
+-- so many frames more were taken and written
+pub record HasTaken (start : List SoloEvent) (f : FlowSoFar) (count : ℕ) (first written : Option (List ℕ)) (events : List SoloEvent) : Type 0 where
+  pub frames : List (List ℕ)
+  pub number : length frames ≡ count
+  pub at : IsAt start (with_frames f frames) first written events
+
+-- the payload is there, and has so many bytes at least
+abbrev pub IsThere : Option (List ℕ) → ℕ → Type 0
+IsThere None used = ⊥
+IsThere (Some payload) used = used ≤ length payload
+
+-- the payload is there, and these are its first bytes
+abbrev pub HasBytes : Option (List ℕ) → ℕ → List ℕ → Type 0
+HasBytes None used bytes = ⊥
+HasBytes (Some payload) used bytes = take used payload ≡ bytes
+
+-- a frame more was handed out, and is the front of the payload
+pub record IsTaken (start : List SoloEvent) (f : FlowSoFar) (events : List SoloEvent) (payload : Option (List ℕ)) (used : ℕ) : Type 0 where
+  pub frame : List ℕ
+  pub flow : IsFlow start (record f { taken = f.taken ++ frame ∷ [] }) events
+  pub there : HasBytes payload used frame

@@ -1,0 +1,84 @@
+//! Takes the frames of a flow, and writes them.
+
+ghost use Rattle.std.specs.Prelude.{◌≡◌, ◌≢◌, ◌<◌, ◌≤◌, ℕ, List, Option, OnOk, OnErr, IfOk, IfErr, IsErrOf};
+ghost use Rattle.std.specs.Io.KnownBytes.{Appends};
+ghost use Rattle.vc_base.specs.declared.Side.TheVariants.{Cap};
+ghost use Rattle.vc_base.specs.Counts.{Rose};
+ghost use Rattle.vc_io.specs.Written.{AppendsFront};
+ghost use Rattle.vc_model.specs.Places.{has_error};
+ghost use Rattle.vc_model.specs.Solo.{SoloEvent};
+ghost use Rattle.vc_queue.specs.Holds.{held_payload};
+ghost use Rattle.vc_encode_flow.specs.Flows.{FlowSoFar, IsFlow, HandedFirst, fault_finishes};
+ghost use Rattle.vc_encode_flow.specs.Steps.{IsAt, StopsEarly, HasTaken, IsThere, HasBytes, IsTaken};
+
+use crate::ends::Stop;
+use crate::opening::queue_capture;
+use std::sync::Wait;
+use vc_base::{Call, Reply, Side};
+use vc_io::{Sink, write_whole};
+use vc_port::PayloadPort;
+use vc_wait::wait_on;
+
+/// The flag ERROR of a buffer.
+const ERROR: u32 = 0x40;
+
+/// A CAPTURE buffer that was taken, and how many of its bytes are used.
+#[derive(Clone, Copy, Debug)]
+struct Frame {
+    index: u32,
+    used: u32,
+}
+
+/// Whether the flags have ERROR.
+fn is_failed(flags: u32) -> bool
+    ensures { result ≡ has_error flags }
+{
+    flags & ERROR == ERROR
+}
+
+/// Waits for a frame and takes it.
+fn take_frame<R: Wait, P: PayloadPort>(rt: &R, port: &mut P) -> Result<Frame, Stop>
+    requires ready { P.ready port.old }
+    ensures ready { P.ready port.new }
+    ensures follows { P.follows port.old port.new }
+    ensures there { IfOk result (λ frame. IsThere (held_payload (P.hold port.new) Cap frame.index) frame.used) }
+    ensures flow { (start : List SoloEvent) (f : FlowSoFar) → IsFlow start f (P.events port.old) → IfOk result (λ frame. IsTaken start f (P.events port.new) (held_payload (P.hold port.new) Cap frame.index) frame.used) }
+    ensures engine { (start : List SoloEvent) (f : FlowSoFar) → IsFlow start f (P.events port.old) → IsErrOf result Stop.EngineFault → fault_finishes start < fault_finishes (P.events port.new) }
+    ensures hands { (start : List SoloEvent) (bytes : List ℕ) → HandedFirst start bytes (P.events port.old) → HandedFirst start bytes (P.events port.new) }
+    ensures stops { IfErr result (λ stop. (stop ≢ Stop.ReadFault) × (stop ≢ Stop.WriteFault) × (stop ≢ Stop.TooLong)) }
+{
+    let call = Call::DqBuf {
+        side: Side::Cap,
+        block: true,
+    };
+    match wait_on(rt, port, &call) {
+        Reply::Taken {
+            index, used, flags, ..
+        } => {
+            if is_failed(flags) {
+                Err(Stop::EngineFault)
+            } else {
+                Ok(Frame { index, used })
+            }
+        }
+        _ => Err(Stop::NoMemory),
+    }
+}
+
+/// Writes a frame that was taken.
+fn write_frame<P: PayloadPort, K: Sink>(port: &P, sink: &mut K, frame: Frame) -> Result<(), Stop>
+    requires there { IsThere (held_payload (P.hold port.now) Cap frame.index) frame.used }
+    ensures whole { (bytes : List ℕ) → HasBytes (held_payload (P.hold port.now) Cap frame.index) frame.used bytes → OnOk result (Appends (K.written sink.old) (K.written sink.new) bytes) }
+    ensures front { (bytes : List ℕ) → HasBytes (held_payload (P.hold port.now) Cap frame.index) frame.used bytes → OnErr result (AppendsFront (K.written sink.old) (K.written sink.new) bytes) }
+    ensures later { K.faults sink.old ≤ K.faults sink.new }
+    ensures write { IsErrOf result Stop.WriteFault → Rose (K.faults sink.old) (K.faults sink.new) }
+    ensures stops { IfErr result (λ stop. stop ≡ Stop.WriteFault) }
+{
+    let Some(payload) = port.payload(Side::Cap, frame.index) else {
+        unreachable!();
+    };
+    match write_whole(sink, &payload[..frame.used as usize]) {
+        Ok(()) => Ok(()),
+        Err(_) => Err(Stop::WriteFault),
+    }
+}
