@@ -21,7 +21,7 @@ use Rattle.vc_script.specs.Verb.{verb_of}
 use Rattle.vc_script.specs.Calls.{one_of, three_of, small_of, nothing_left, kind_alone, side_alone, number_alone, two_numbers, side_and_number, side_and_numbers, side_and_format, call_of}
 use Rattle.vc_script.specs.Lines.{queued_on, queued, with_no_bytes, call_and_bytes, slot_below, slot_of, call_line_of, worker_of, line_with, is_comment, asked_by, line_of}
 use Rattle.vc_model.specs.Script.{HasUsedBytes}
-use Rattle.vc_top.specs.Asking.{IsAskedLine, only_built, is_built}
+use Rattle.vc_top.specs.Asking.{IsAskedLine}
 
 -- what holds of a meaning where there is one
 AllSome : {A : Type 0} → (A → Type 0) → Option A → Type 0
@@ -173,10 +173,6 @@ lines_asked : (n : ℕ) (line : List ℕ) → AllSome (IsAskedLine n) (line_of n
 unfolding line_of
 lines_asked n line = asked_is n (words_of line)
 
-only_is : (n : ℕ) (o : Option (Option Line)) → AllSome (IsAskedLine n) o → AllSome (IsAskedLine n) (only_built o)
-only_is n None h = h
-only_is n (Some l) h = all_cond (IsAskedLine n) (is_built l) (Some l) None h (nothing (IsAskedLine n))
-
-pub asked_line : (n : ℕ) (line : List ℕ) (asked : Option Line) → only_built (line_of n line) ≡ Some asked → IsAskedLine n asked
+pub asked_line : (n : ℕ) (line : List ℕ) (asked : Option Line) → line_of n line ≡ Some asked → IsAskedLine n asked
 unfolding AllSome
-asked_line n line asked e = subst (AllSome (IsAskedLine n)) e (only_is n (line_of n line) (lines_asked n line))
+asked_line n line asked e = subst (AllSome (IsAskedLine n)) e (lines_asked n line)

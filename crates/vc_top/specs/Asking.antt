@@ -1,24 +1,10 @@
--- What the lines of a script ask for, as far as the device is built.
-use Rattle.std.specs.Prelude.{ℕ, ◌<◌, Bool, true, false, if◌then◌else◌, Option, Some, None, List, [], ◌∷◌}
+-- What the lines of a script ask for.
+use Rattle.std.specs.Prelude.{ℕ, ◌<◌, Option, Some, None, List, [], ◌∷◌}
 use Rattle.std.specs.Option.{option_map}
-use Rattle.vc_base.specs.declared.Kind.TheVariants.{Copy, Enc, Dec}
-use Rattle.vc_base.specs.declared.Call.{Call}
-use Rattle.vc_base.specs.declared.Call.TheVariants.{Open}
 use Rattle.vc_script.specs.declared.line.Line.{Line}
 use Rattle.vc_script.specs.declared.line.Line.TheVariants as lines
 use Rattle.vc_script.specs.Lines.{line_of}
 use Rattle.vc_model.specs.Script.{Asked, AsksNothing, AsksCall, AsksClaim, AsksFinish, AsksRun, HasUsedBytes}
-
--- Contexts that decode aren't built yet: a line that opens one is bad.
-abbrev pub is_built_call : Call → Bool
-is_built_call (Open Copy) = true
-is_built_call (Open Enc) = true
-is_built_call (Open Dec) = false
-is_built_call request = true
-
-abbrev pub is_built : Option Line → Bool
-is_built (Some (lines.Call slot request bytes)) = is_built_call request
-is_built line = true
 
 -- what a line asks for
 abbrev pub asked_of : Option Line → Asked
@@ -28,14 +14,9 @@ asked_of (Some (lines.Claim worker)) = AsksClaim worker
 asked_of (Some (lines.Finish worker)) = AsksFinish worker
 asked_of (Some (lines.Run worker)) = AsksRun worker
 
--- a line that the device has, and none else
-abbrev pub only_built : Option (Option Line) → Option (Option Line)
-only_built None = None
-only_built (Some line) = if is_built line then Some line else None
-
 -- what a line asks for, among so many slots; none where the line is bad
 abbrev pub asks_line : ℕ → List ℕ → Option Asked
-asks_line slots line = option_map asked_of (only_built (line_of slots line))
+asks_line slots line = option_map asked_of (line_of slots line)
 
 abbrev pub with_rest : Option Asked → Option (List Asked) → Option (List Asked)
 with_rest None rest = None

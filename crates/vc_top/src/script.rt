@@ -4,9 +4,6 @@ ghost use Rattle.std.specs.Prelude.{◌≡◌, ◌≢◌, ◌<◌, ◌≤◌, �
 ghost use Rattle.std.specs.Str.Lines.{lines};
 ghost use Rattle.vc_base.specs.Counts.{Rose};
 ghost use Rattle.vc_base.specs.Device.{DeviceEvent};
-ghost use Rattle.vc_script.specs.Lines.{line_of};
-ghost use Rattle.vc_script.specs.Payload.{Reads};
-ghost use Rattle.vc_top.specs.Asking.{is_built_call, is_built, only_built};
 ghost use Rattle.vc_top.specs.Desks.{IsDesk, IsSomeDesk};
 ghost use Rattle.vc_top.specs.Ends.{LinesEnd};
 ghost use Rattle.vc_top.specs.Steps.{LineDone, LineStopped, status_of, status_at_end};
@@ -15,7 +12,6 @@ use crate::carry::carry_out;
 use crate::desk::Desk;
 use crate::status::Status;
 use std::alloc::Global;
-use vc_base::{Call, Kind};
 use vc_core::Engine;
 use vc_io::{Sink, write_whole};
 use vc_script::{Line, LineFault, next_line, read_line};
@@ -26,41 +22,6 @@ pub(crate) enum LineStop {
     Bad,
     WriteFault,
     NoMemory,
-}
-
-// Whether the device has what the call asks for: there are no contexts yet that decode.
-fn is_built_call(call: &Call) -> bool
-    ensures { result ≡ is_built_call call.now }
-{
-    match call {
-        Call::Open { kind: Kind::Dec } => false,
-        _ => true,
-    }
-}
-
-fn is_built(line: &Option<Line>) -> bool
-    ensures { result ≡ is_built line.now }
-{
-    match line {
-        Some(Line::Call { call, .. }) => is_built_call(call),
-        _ => true,
-    }
-}
-
-// What a line asks for.
-fn read_asked(alloc: Global, line: &[u8], slots: u32) -> Result<Option<Line>, LineFault>
-    ensures { Reads (only_built (line_of slots line.now)) result }
-{
-    match read_line(alloc, line, slots) {
-        Ok(asked) => {
-            if is_built(&asked) {
-                Ok(asked)
-            } else {
-                Err(LineFault::Bad)
-            }
-        }
-        Err(fault) => Err(fault),
-    }
 }
 
 // Carries out a line and writes what it prints. Tells whether the engine gave up in it.
@@ -83,7 +44,7 @@ fn do_line<K: Sink, E: Engine>(
     ensures runs_stay { E.run_count engine.old ≤ E.run_count engine.new }
     ensures faults_stay { E.fault_count engine.old ≤ E.fault_count engine.new }
 {
-    let asked = match read_asked(alloc, line, slots) {
+    let asked = match read_line(alloc, line, slots) {
         Ok(asked) => asked,
         Err(LineFault::Bad) => return Err(LineStop::Bad),
         Err(LineFault::NoMemory) => return Err(LineStop::NoMemory),
