@@ -5,6 +5,7 @@
 
 use crate::tests::{Failing, run};
 use std::alloc::Global;
+use std::process::Abort;
 use std::test::Fail;
 use vc_base::NoMemory;
 use vc_top::Status;
@@ -135,11 +136,11 @@ fn unfolded(alloc: Global, text: &str) -> Result<Vec<u8>, NoMemory> {
 }
 
 /// Runs each script: it prints its text and ends well.
-fn all_print(rt: HostRuntime, cases: &[(&str, &str)]) -> Result<(), Fail> {
+fn all_print(rt: &impl Abort, alloc: Global, cases: &[(&str, &str)]) -> Result<(), Fail> {
     for (script, text) in cases {
-        let input = unfolded(rt.alloc(), script)?;
-        let wanted = unfolded(rt.alloc(), text)?;
-        let (ended, printed) = run(rt.alloc(), &["script"], input, Failing::Nothing)?;
+        let input = unfolded(alloc, script)?;
+        let wanted = unfolded(alloc, text)?;
+        let (ended, printed) = run(alloc, &["script"], input, Failing::Nothing)?;
         assert_eq!(rt; printed.as_slice(), wanted.as_slice());
         assert_eq!(rt; ended, Status::Fine);
     }
@@ -148,27 +149,27 @@ fn all_print(rt: HostRuntime, cases: &[(&str, &str)]) -> Result<(), Fail> {
 
 #[test]
 fn a_frame_may_come_byte_by_byte(rt: HostRuntime) -> Result<(), Fail> {
-    all_print(rt, &[BYTE_BY_BYTE])
+    all_print(&rt, rt.alloc(), &[BYTE_BY_BYTE])
 }
 
 #[test]
 fn streams_become_pictures(rt: HostRuntime) -> Result<(), Fail> {
-    all_print(rt, &STREAMS)
+    all_print(&rt, rt.alloc(), &STREAMS)
 }
 
 #[test]
 fn decoders_follow_changes(rt: HostRuntime) -> Result<(), Fail> {
-    all_print(rt, &CHANGES)
+    all_print(&rt, rt.alloc(), &CHANGES)
 }
 
 #[test]
 fn drains_come_to_their_ends(rt: HostRuntime) -> Result<(), Fail> {
-    all_print(rt, &ENDS)
+    all_print(&rt, rt.alloc(), &ENDS)
 }
 
 #[test]
 fn probes_find_the_geometry(rt: HostRuntime) -> Result<(), Fail> {
-    all_print(rt, &PROBES)
+    all_print(&rt, rt.alloc(), &PROBES)
 }
 
 #[test]

@@ -65,7 +65,7 @@ fn making_reads_nothing_and_may_fail(rt: HostRuntime) -> Result<(), Fail> {
     ];
     let rows = [
         (small, Failing::Source, Status::Fine, 256),
-        (small, Failing::Engine, Status::Fine, 256),
+        (small, Failing::Engine { run: 0 }, Status::Fine, 256),
         (small, Failing::Sink, Status::WriteFault, 0),
         (
             &["make", "--width", "17"],
