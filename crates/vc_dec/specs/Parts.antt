@@ -2,9 +2,8 @@
 -- buffers.
 use Rattle.std.specs.Prelude.{ℕ, ◌≡◌, Bool, true, false, is_some, map, Option, Some, None, List, [], ◌∷◌, ◌++◌}
 use Rattle.std.specs.Option.{option_map}
-use Rattle.vc_defs.specs.Decoder.{ReferenceState, DecoderState, fresh_decoder}
+use Rattle.vc_defs.specs.Decoder.{ReferenceState, fresh_decoder}
 use Rattle.vc_defs.specs.Encoder.{fresh_encoder}
-use Rattle.vc_defs.specs.Finds.{KeptBytes, nothing_kept}
 use Rattle.vc_resync.specs.Assembling.{AssemblyState, fresh_assembly}
 use Rattle.vc_work.specs.References.{CodecReference, HasRoomFor}
 use Rattle.vc_work.specs.Streams.{decoder_of, picture_of, kept_of}
