@@ -193,7 +193,12 @@ fn show(pair: &mut Pair, events: &mut Events, dest: Lent, shown: Shown)
 }
 
 /// Gives back what has no result, stops where the stream changed, and settles what that left.
-fn hand_back(pair: &mut Pair, events: &mut Events, dest: Option<Lent>, changed: Option<Geometry>)
+fn hand_back(
+    pair: &mut Pair,
+    events: &mut Events,
+    dest: Option<Lent>,
+    changed: Option<Geometry>,
+)
     requires dest { IsDestBack pair.old dest }
     requires source { pair.old.out.job ≡ [] }
     requires running { pair.old.phase ≡ run }
@@ -211,7 +216,12 @@ fn hand_back(pair: &mut Pair, events: &mut Events, dest: Option<Lent>, changed: 
 }
 
 /// Ends the destination of a run: it goes to done where the run showed something in it, and else back.
-fn end_dest(pair: &mut Pair, events: &mut Events, dest: Option<Lent>, end: &RunEnd)
+fn end_dest(
+    pair: &mut Pair,
+    events: &mut Events,
+    dest: Option<Lent>,
+    end: &RunEnd,
+)
     requires dest { IsDestBack pair.old dest }
     requires source { pair.old.out.job ≡ [] }
     requires running { pair.old.phase ≡ run }
