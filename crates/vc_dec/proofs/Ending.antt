@@ -1,16 +1,13 @@
 -- What the end of a job makes of a decoder context, in the words of its pair.
-use Rattle.std.proofs.Common.{ℕ, ◌≡◌, ◌≤◌, ◌<◌, ◌+◌, ◌==◌, eqb, Bool, true, false, cond, ◌&&◌, ◌||◌, Option, Some, None, List, [], ◌∷◌, ◌++◌, map, length, take, refl, sym, ap, ◌∙◌, subst, arith}
+use Rattle.std.proofs.Common.{ℕ, ◌≡◌, Bool, true, false, cond, ◌&&◌, ◌||◌, Option, Some, None, List, [], ◌∷◌, take, refl, sym, ap, ◌∙◌, subst}
 use Rattle.std.specs.Prelude.{nat_lt, not}
-use Rattle.std.proofs.lemmas.Bool.{false≢true}
-use Rattle.vc_base.specs.declared.Side.{Side}
-use Rattle.vc_base.specs.declared.Side.TheVariants.{Out, Cap}
 use Rattle.vc_base.specs.declared.Stamp.{Stamp}
-use Rattle.vc_base.specs.Buffers.{Buffer, QueueState, is_empty, retire_from, retire_after, give_back_from, give_back_after, known_bytes, error_flag, without_bytes}
+use Rattle.vc_base.specs.Buffers.{Buffer, QueueState, is_empty, retire_from, give_back_from, without_bytes}
 use Rattle.vc_base.specs.Events.{EventState, raise_after, source_change_event}
 use Rattle.vc_defs.specs.declared.Geometry.{Geometry}
 use Rattle.vc_defs.specs.Decoder.{DecoderState}
 use Rattle.vc_model.specs.Formats.{FormatPair, formats_found}
-use Rattle.vc_model.specs.Context.{Context, PhaseState, run, owe, last, stopped, drain, change, is_run, is_drain, is_drained, has_before, settle}
+use Rattle.vc_model.specs.Context.{Context, PhaseState, run, owe, last, stopped, drain, change, is_run, is_drained, has_before, settle}
 use Rattle.vc_model.specs.Runs.{dest_done, dest_back, stop_by_change}
 use Rattle.vc_queue.specs.declared.queue.Lent.{Lent}
 use Rattle.vc_queue.specs.Lending.{back_bytes}
@@ -54,7 +51,7 @@ settled_cases q cap last_cap false e f =
 retired_settled : (q : PairState) (used : ℕ) (bytes : List ℕ) (flags : ℕ) (stamp : Stamp) → q.phase ≡ run → IsSettled (cap_retired q used bytes flags stamp)
 retired_settled q used bytes flags stamp e = settled_cases q _ _ (is_final q) e refl
 
-emptied : (q : QueueState) (bs : List Buffer) (used : ℕ) (bytes : List ℕ) (flags : ℕ) (stamp : Stamp) → q.job ≡ bs → (retire_from q bs used bytes flags stamp).job ≡ []
+pub emptied : (q : QueueState) (bs : List Buffer) (used : ℕ) (bytes : List ℕ) (flags : ℕ) (stamp : Stamp) → q.job ≡ bs → (retire_from q bs used bytes flags stamp).job ≡ []
 emptied q [] used bytes flags stamp e = e
 emptied q (b ∷ rest) used bytes flags stamp e = refl
 
@@ -136,7 +133,7 @@ module _ (f : FormatPair) (g : Option Geometry) (s : DecoderState) where
   back_cap : (q : QueueState) (bs : List Buffer) (b : Buffer) (lent : Lent) → bs ≡ without_bytes b ∷ [] → lent.cursor ≡ 0 → b.used ≡ 0 → give_back_from q bs lent.cursor (back_bytes bs lent) ≡ give_back_from q bs 0 []
   back_cap q bs b lent j c u = rw (j, c, u) refl
 
-  back_job : (q : QueueState) (bs : List Buffer) (cursor : ℕ) (bytes : List ℕ) → q.job ≡ bs → (give_back_from q bs cursor bytes).job ≡ []
+  pub back_job : (q : QueueState) (bs : List Buffer) (cursor : ℕ) (bytes : List ℕ) → q.job ≡ bs → (give_back_from q bs cursor bytes).job ≡ []
   back_job q [] cursor bytes e = e
   back_job q (b ∷ rest) cursor bytes e = refl
 

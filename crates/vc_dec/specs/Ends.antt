@@ -1,7 +1,7 @@
 -- What the end of a job leaves of its buffers (docs/DEVICE.md, "Runs").
-use Rattle.std.specs.Prelude.{ℕ, ◌≡◌, Bool, true, false, take, is_some, Option, Some, None, Result, Ok, Err, List, []}
+use Rattle.std.specs.Prelude.{ℕ, ◌≡◌, Bool, true, false, take, Option, Some, None, Result, Ok, List, []}
 use Rattle.vc_base.specs.declared.Stamp.{Stamp}
-use Rattle.vc_base.specs.Buffers.{Buffer, give_back_after, error_flag}
+use Rattle.vc_base.specs.Buffers.{give_back_after, error_flag}
 use Rattle.vc_base.specs.Events.{EventState, raise_after, source_change_event}
 use Rattle.vc_defs.specs.declared.Geometry.{Geometry}
 use Rattle.vc_defs.specs.Headers.{is_legal_geometry}
@@ -81,14 +81,10 @@ IsLentDest (Some dest) (Some payload) (Some lent) = (lent.index ≡ dest.index) 
 IsLentDest (Some dest) (Some payload) None = ⊥
 IsLentDest dest payload lent = lent ≡ None
 
--- the formats and the geometry after a change
+-- the formats after a change
 abbrev pub formats_behind : Option Geometry → FormatPair → FormatPair
 formats_behind None formats = formats
 formats_behind (Some geometry) formats = formats_found formats geometry
-
-abbrev pub present_behind : Option Geometry → Option Geometry → Option Geometry
-present_behind None present = present
-present_behind (Some geometry) present = Some geometry
 
 -- a geometry that a change brings is legal
 abbrev pub IsLegalChange : Option Geometry → Type 0

@@ -16,7 +16,7 @@ ghost use Rattle.vc_context.specs.Contexts.{HasRoom, IsKept, IsStep};
 ghost use Rattle.vc_context.specs.Payloads.{FitsContext};
 ghost use Rattle.vc_context.specs.Works.{RunsIn, IsBack as IsWorkBack, IsBackOf};
 ghost use Rattle.vc_dec.specs.Decoders.{end_raised};
-ghost use Rattle.vc_dec.specs.Ends.{end_of, source_put, dest_put, IsDestBack, dest_ended, events_ended, IsLentDest, formats_behind, present_behind, IsLegalChange};
+ghost use Rattle.vc_dec.specs.Ends.{end_of, source_put, dest_put, IsDestBack, dest_ended, events_ended, IsLentDest, formats_behind, IsLegalChange};
 
 use crate::codec::Codec;
 use crate::settling::{raise_end, settle};
@@ -193,12 +193,7 @@ fn show(pair: &mut Pair, events: &mut Events, dest: Lent, shown: Shown)
 }
 
 /// Gives back what has no result, stops where the stream changed, and settles what that left.
-fn hand_back(
-    pair: &mut Pair,
-    events: &mut Events,
-    dest: Option<Lent>,
-    changed: Option<Geometry>,
-)
+fn hand_back(pair: &mut Pair, events: &mut Events, dest: Option<Lent>, changed: Option<Geometry>)
     requires dest { IsDestBack pair.old dest }
     requires source { pair.old.out.job ≡ [] }
     requires running { pair.old.phase ≡ run }
@@ -216,12 +211,7 @@ fn hand_back(
 }
 
 /// Ends the destination of a run: it goes to done where the run showed something in it, and else back.
-fn end_dest(
-    pair: &mut Pair,
-    events: &mut Events,
-    dest: Option<Lent>,
-    end: &RunEnd,
-)
+fn end_dest(pair: &mut Pair, events: &mut Events, dest: Option<Lent>, end: &RunEnd)
     requires dest { IsDestBack pair.old dest }
     requires source { pair.old.out.job ≡ [] }
     requires running { pair.old.phase ≡ run }
