@@ -1,9 +1,8 @@
 -- A decoder context at Open.
-use Rattle.std.proofs.Common.{◌≡◌, ◌<◌, None, [], refl, arith}
+use Rattle.std.proofs.Common.{◌≡◌, ◌<◌, None, refl, arith}
 use Rattle.vc_base.specs.declared.Kind.TheVariants.{Dec}
 use Rattle.vc_base.specs.Buffers.{buffer_count}
 use Rattle.vc_base.specs.Events.{EventState, no_events}
-use Rattle.vc_defs.specs.Decoder.{fresh_decoder}
 use Rattle.vc_model.specs.Formats.{FormatPair, formats_at_open}
 use Rattle.vc_geom.specs.Pairs.{CanStand}
 use Rattle.vc_pair.specs.Pairs.{PairState, new_pair}
