@@ -124,120 +124,6 @@ fn refuses(call: Call, errno: Errno) -> Step {
     Step::Call(call, Reply::Refused { errno })
 }
 
-#[test]
-fn formats_follow_output(rt: HostRuntime) -> Result<(), Fail> {
-    let out = Side::Out;
-    let cap = Side::Cap;
-    let rows = [
-        Step::Call(
-            Call::GetFmt { side: out },
-            Reply::Fmt {
-                format: format(b"YU12", 352, 288, 152_064),
-            },
-        ),
-        Step::Call(
-            Call::GetFmt { side: cap },
-            Reply::Fmt {
-                format: format(b"FWHT", 352, 288, 152_108),
-            },
-        ),
-        Step::Call(
-            Call::EnumFmt {
-                side: out,
-                index: 3,
-            },
-            Reply::Desc {
-                fourcc: Fourcc(*b"YUYV"),
-            },
-        ),
-        refuses(
-            Call::EnumFmt {
-                side: out,
-                index: 4,
-            },
-            Errno::Inval,
-        ),
-        refuses(
-            Call::EnumFmt {
-                side: cap,
-                index: 1,
-            },
-            Errno::Inval,
-        ),
-        Step::Call(
-            Call::SetFmt {
-                side: out,
-                want: format(b"YUYV", 17, 17, 0),
-            },
-            Reply::Fmt {
-                format: format(b"YUYV", 18, 17, 612),
-            },
-        ),
-        Step::Call(
-            Call::GetFmt { side: cap },
-            Reply::Fmt {
-                format: format(b"FWHT", 18, 17, 1388),
-            },
-        ),
-        Step::Call(
-            Call::TryFmt {
-                side: out,
-                want: format(b"ZZZZ", 1, 1, 0),
-            },
-            Reply::Fmt {
-                format: format(b"YU12", 16, 16, 384),
-            },
-        ),
-        Step::Call(
-            Call::TryFmt {
-                side: out,
-                want: format(b"GREY", 5000, 5000, 0),
-            },
-            Reply::Fmt {
-                format: format(b"GREY", 4096, 2160, 8_847_360),
-            },
-        ),
-        Step::Call(
-            Call::GetFmt { side: out },
-            Reply::Fmt {
-                format: format(b"YUYV", 18, 17, 612),
-            },
-        ),
-        Step::Call(
-            Call::CreateBufs {
-                side: cap,
-                count: 1,
-                length: 2000,
-            },
-            Reply::Created { index: 0, count: 1 },
-        ),
-        refuses(
-            Call::SetFmt {
-                side: out,
-                want: format(b"GREY", 16, 16, 0),
-            },
-            Errno::Busy,
-        ),
-    ];
-    play(&rt, rt.alloc(), &rows)?;
-    Ok(())
-}
-
-#[test]
-fn controls_have_ranges(rt: HostRuntime) -> Result<(), Fail> {
-    let rows = [
-        Step::Call(Call::GetCtrl { id: 1 }, Reply::Value { value: 10 }),
-        refuses(Call::SetCtrl { id: 1, value: 17 }, Errno::Inval),
-        refuses(Call::SetCtrl { id: 5, value: 1 }, Errno::Inval),
-        Step::Call(Call::GetCtrl { id: 5 }, Reply::Value { value: 1 }),
-        refuses(Call::GetCtrl { id: 4 }, Errno::Inval),
-        done(Call::SetCtrl { id: 2, value: 31 }),
-        Step::Call(Call::GetCtrl { id: 2 }, Reply::Value { value: 31 }),
-    ];
-    play(&rt, rt.alloc(), &rows)?;
-    Ok(())
-}
-
 /// Makes `count` buffers.
 fn req(side: Side, count: u32) -> Step {
     Step::Call(Call::ReqBufs { side, count }, Reply::Count { count })
@@ -271,81 +157,6 @@ fn takes(side: Side, used: u32, flags: u32, seq: u64, stamp: u64) -> Step {
         stamp: Stamp(stamp),
     };
     Step::Call(take(side), reply)
-}
-
-#[test]
-fn a_drain_of_nothing_ends_with_an_empty_buffer(rt: HostRuntime) -> Result<(), Fail> {
-    let cap = Side::Cap;
-    let rows = [
-        req(Side::Out, 1),
-        req(cap, 1),
-        done(Call::StreamOn { side: Side::Out }),
-        done(Call::StreamOn { side: cap }),
-        done(Call::Subscribe { event: 2 }),
-        done(command(1)),
-        refuses(command(1), Errno::Busy),
-        refuses(command(0), Errno::Busy),
-        refuses(take(cap), Errno::Again),
-        done(queue(cap, 0, 0, 0)),
-        takes(cap, 0, 0x10_0000, 0, 0),
-        Step::Call(
-            Call::DqEvent { block: false },
-            Reply::Happened {
-                event: 2,
-                seq: 0,
-                changes: 0,
-                pending: 0,
-            },
-        ),
-        refuses(Call::DqEvent { block: false }, Errno::NoEnt),
-        refuses(take(cap), Errno::Pipe),
-        Step::Call(
-            Call::Poll,
-            Reply::Ready {
-                read: true,
-                write: false,
-                urgent: false,
-            },
-        ),
-        done(command(1)),
-        done(command(0)),
-        done(queue(cap, 0, 0, 0)),
-        refuses(take(cap), Errno::Again),
-        Step::Call(
-            Call::DqBuf {
-                side: cap,
-                block: true,
-            },
-            Reply::Blocked,
-        ),
-        refuses(command(7), Errno::Inval),
-        refuses(Call::DecCmd { cmd: 0 }, Errno::NoTty),
-    ];
-    play(&rt, rt.alloc(), &rows)?;
-    Ok(())
-}
-
-#[test]
-fn a_drain_needs_both_queues(rt: HostRuntime) -> Result<(), Fail> {
-    let cap = Side::Cap;
-    let rows = [
-        req(Side::Out, 1),
-        req(cap, 1),
-        done(Call::StreamOn { side: Side::Out }),
-        done(command(1)),
-        done(Call::StreamOn { side: cap }),
-        done(queue(cap, 0, 0, 0)),
-        refuses(take(cap), Errno::Again),
-        refuses(
-            Call::ReqBufs {
-                side: Side::Out,
-                count: 1,
-            },
-            Errno::Busy,
-        ),
-    ];
-    play(&rt, rt.alloc(), &rows)?;
-    Ok(())
 }
 
 #[test]
@@ -388,5 +199,17 @@ fn runs_bring_frames_and_faults(rt: HostRuntime) -> Result<(), Fail> {
         done(Call::StreamOff { side: out }),
     ];
     play(&rt, rt.alloc(), &rows)?;
+    Ok(())
+}
+
+#[test]
+fn memory_is_asked_for_last(rt: HostRuntime) -> Result<(), Fail> {
+    let encoder = Encoder::make(rt.alloc())?;
+    let asked = Call::ReqBufs {
+        side: Side::Cap,
+        count: 1,
+    };
+    assert_eq!(rt; encoder.refusal(&asked), None);
+    assert!(rt; !encoder.is_running() && !encoder.ready());
     Ok(())
 }

@@ -93,45 +93,34 @@ fn becomes(
         && &out[44.min(end)..end] == body
 }
 
+/// Pictures of one sample, whether the encoder begins anew, and the flags and the body of the frame.
+const FRAMES: [(u8, bool, [u8; 4], &[u8]); 4] = [
+    (128, true, KEY, &[0, 6, 0, 15]),
+    (128, false, [0, 0x28, 0, 0], &[0, 6, 0, 15]),
+    (255, true, KEY, &[0, 6, 0x7f, 0, 0, 15]),
+    (0, true, KEY, &[0, 6, 0x80, 0, 0, 15]),
+];
+
 #[test]
 fn pictures_become_the_named_frames(rt: HostRuntime) -> Result<(), Fail> {
     let Ok(mut reference) = Reference::make(rt.alloc(), 256) else {
         return Err(Fail::new("no memory"));
     };
-    let small = [0, 0, 0, 4];
-    assert!(rt; becomes(&mut reference, &[128; 256], 20, KEY, small, &[0, 6, 0, 15]));
-    assert!(rt;
-        becomes(
-            &mut reference,
-            &[128; 256],
-            20,
-            [0, 0x28, 0, 0],
-            small,
-            &[0, 6, 0, 15]
-        )
-    );
-    reference.reset();
-    assert!(rt;
-        becomes(
-            &mut reference,
-            &[255; 256],
-            20,
-            KEY,
-            [0, 0, 0, 6],
-            &[0, 6, 0x7f, 0, 0, 15]
-        )
-    );
-    reference.reset();
-    assert!(rt;
-        becomes(
-            &mut reference,
-            &[0; 256],
-            20,
-            KEY,
-            [0, 0, 0, 6],
-            &[0, 6, 0x80, 0, 0, 15]
-        )
-    );
+    for (sample, anew, flags, body) in FRAMES {
+        if anew {
+            reference.reset();
+        }
+        let size = [0, 0, 0, body.len() as u8];
+        assert!(rt; becomes(&mut reference, &[sample; 256], 20, flags, size, body));
+    }
+    Ok(())
+}
+
+#[test]
+fn sharp_pictures_are_stored(rt: HostRuntime) -> Result<(), Fail> {
+    let Ok(mut reference) = Reference::make(rt.alloc(), 256) else {
+        return Err(Fail::new("no memory"));
+    };
     let mut raw = [128; 256];
     let mut stored = [128; 256];
     for (place, sample) in [(0, 255), (8, 0), (128, 255), (136, 0)] {
@@ -139,17 +128,8 @@ fn pictures_become_the_named_frames(rt: HostRuntime) -> Result<(), Fail> {
         raw[place as usize] = sample;
         stored[place as usize] = sample.min(254);
     }
-    reference.reset();
-    assert!(rt;
-        becomes(
-            &mut reference,
-            &raw,
-            1,
-            [0, 8, 4, 0x10],
-            [0, 0, 1, 0],
-            &stored
-        )
-    );
+    let flags = [0, 8, 4, 0x10];
+    assert!(rt; becomes(&mut reference, &raw, 1, flags, [0, 0, 1, 0], &stored));
     Ok(())
 }
 

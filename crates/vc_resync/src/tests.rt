@@ -49,12 +49,14 @@ fn answers(alloc: Global, bytes: &[u8], limit: u32, size: usize) -> Result<Vec<A
     Ok(answers)
 }
 
-/// The first bytes of a frame of 48 bytes, and behind them such a frame, whose size field has `last` as its last byte
-/// where there are two.
-fn bytes_of(alloc: Global, front: &[u8], last: u8) -> Result<Vec<u8>, Fail> {
+/// So many first bytes of a frame of 48 bytes, and behind them such a frame. Where all but the last byte of the header
+/// stand in front, they are a whole frame whose size field ends with `last`.
+fn bytes_of(alloc: Global, front: usize, last: u8) -> Result<Vec<u8>, Fail> {
     let mut bytes = Vec::new(alloc);
-    bytes.extend_from_slice(front)?;
-    if front.len() == 43 {
+    for byte in HEAD.iter().take(front) {
+        bytes.push(*byte)?;
+    }
+    if front == 43 {
         bytes.push(last)?;
         bytes.extend_from_slice(&REST[1..])?;
     }
@@ -64,63 +66,65 @@ fn bytes_of(alloc: Global, front: &[u8], last: u8) -> Result<Vec<u8>, Fail> {
 }
 
 /// A line of the table: what stands in front of the last frame, the limit, and the answers, where stamps are places.
-type Line<'a> = (&'a [u8], u8, u32, &'a [Answer]);
+type Line<'a> = (usize, u8, u32, &'a [Answer]);
 
 const MOST: u32 = 17694720;
 
+/// Frames behind all that may stand in front of them.
+const TABLE: [Line; 8] = [
+    (0, 0, 556, &[(b'h', 44, 0, 0), (b'w', 48, 0, 4)]),
+    (0, 0, 3, &[]),
+    (8, 0, 556, &[(b'h', 52, 0, 0), (b'w', 56, 8, 4)]),
+    (
+        41,
+        0,
+        MOST,
+        &[
+            (b'h', 44, 0, 0),
+            (b'c', 49, 0, 0),
+            (b'h', 85, 0, 0),
+            (b'w', 89, 41, 4),
+        ],
+    ),
+    (41, 0, 556, &[(b'h', 85, 0, 0), (b'w', 89, 41, 4)]),
+    (
+        43,
+        5,
+        556,
+        &[
+            (b'h', 44, 0, 0),
+            (b'w', 49, 0, 5),
+            (b'h', 92, 0, 0),
+            (b'w', 96, 48, 4),
+        ],
+    ),
+    (
+        43,
+        32,
+        556,
+        &[
+            (b'h', 44, 0, 0),
+            (b'c', 56, 0, 0),
+            (b'h', 92, 0, 0),
+            (b'w', 96, 48, 4),
+        ],
+    ),
+    (
+        43,
+        0,
+        556,
+        &[
+            (b'h', 44, 0, 0),
+            (b'w', 44, 0, 0),
+            (b'h', 92, 0, 0),
+            (b'w', 96, 48, 4),
+        ],
+    ),
+];
+
 #[test]
 fn the_frames_of_the_table_are_told_in_pieces_of_any_size(rt: HostRuntime) -> Result<(), Fail> {
-    let table: [Line; 8] = [
-        (&[], 0, 556, &[(b'h', 44, 0, 0), (b'w', 48, 0, 4)]),
-        (&[], 0, 3, &[]),
-        (&HEAD[..8], 0, 556, &[(b'h', 52, 0, 0), (b'w', 56, 8, 4)]),
-        (
-            &HEAD[..41],
-            0,
-            MOST,
-            &[
-                (b'h', 44, 0, 0),
-                (b'c', 49, 0, 0),
-                (b'h', 85, 0, 0),
-                (b'w', 89, 41, 4),
-            ],
-        ),
-        (&HEAD[..41], 0, 556, &[(b'h', 85, 0, 0), (b'w', 89, 41, 4)]),
-        (
-            &HEAD,
-            5,
-            556,
-            &[
-                (b'h', 44, 0, 0),
-                (b'w', 49, 0, 5),
-                (b'h', 92, 0, 0),
-                (b'w', 96, 48, 4),
-            ],
-        ),
-        (
-            &HEAD,
-            32,
-            556,
-            &[
-                (b'h', 44, 0, 0),
-                (b'c', 56, 0, 0),
-                (b'h', 92, 0, 0),
-                (b'w', 96, 48, 4),
-            ],
-        ),
-        (
-            &HEAD,
-            0,
-            556,
-            &[
-                (b'h', 44, 0, 0),
-                (b'w', 44, 0, 0),
-                (b'h', 92, 0, 0),
-                (b'w', 96, 48, 4),
-            ],
-        ),
-    ];
-    for (front, last, limit, wanted) in table {
+    for (front, last, limit, wanted) in TABLE {
         let bytes = bytes_of(rt.alloc(), front, last)?;
         for size in [1, 7, 1000] {
             let told = answers(rt.alloc(), &bytes, limit, size)?;

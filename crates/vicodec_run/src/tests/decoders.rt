@@ -88,6 +88,19 @@ const ENDS: [(&str, &str); 3] = [
     ),
 ];
 
+/// Formats and settings of a fresh decoder, and formats that follow; a drain with nothing queued, START, a buffer that
+/// is created beside the others, and a seek.
+const QUIET: [(&str, &str); 2] = [
+    (
+        "0 open dec\n0 gfmt out\n0 gfmt cap\n0 enum out 1\n0 enum cap 1\n0 tryfmt cap YUYV 17 17 1\n0 sfmt out YUYV 17 17 1\n0 gfmt cap\n0 gctl 4\n0 gctl 1\n0 sctl 4 1\n0 dcmd 2\n0 ecmd 0\n0 sub 3\n0 evw\n0 poll\n",
+        "0 open ok\n0 gfmt ok FWHT 352 288 202796\n0 gfmt ok YU12 352 288 152064\n0 enum EINVAL\n0 enum ok NV12\n0 tryfmt ok YU12 352 288 152064\n0 sfmt ok FWHT 18 18 64\n0 gfmt ok YU12 18 18 486\n0 gctl ok 1\n0 gctl EINVAL\n0 sctl EINVAL\n0 dcmd EINVAL\n0 ecmd ENOTTY\n0 sub EINVAL\n0 evw blocked\n0 poll ok 0 0 0\n",
+    ),
+    (
+        "0 open dec\n0 sfmt out FWHT 16 16 64\n0 sub 2\n0 req out 1\n0 req cap 1\n0 on out\n0 on cap\n0 q cap 0\n0 dcmd 1\n0 dq cap\n0 dq cap\n0 ev\n0 dcmd 0\n0 dqw cap\n0 create cap 2 600\n0 query cap 2\n0 off out\n",
+        "0 open ok\n0 sfmt ok FWHT 16 16 64\n0 sub ok\n0 req ok 1\n0 req ok 1\n0 on ok\n0 on ok\n0 q ok\n0 dcmd ok\n0 dq ok 0 0 100000 0 0 -\n0 dq EPIPE\n0 ev ok 2 0 0 0\n0 dcmd ok\n0 dqw blocked\n0 create ok 1 2\n0 query ok 2 600 0\n0 off ok\n",
+    ),
+];
+
 /// Probes: CAPTURE that streams before a probe ends, and behind it; a pixel format that is set while it
 /// runs; a frame without a body, whose change and damage are known at one byte.
 const PROBES: [(&str, &str); 4] = [
@@ -145,6 +158,11 @@ fn all_print(rt: &impl Abort, alloc: Global, cases: &[(&str, &str)]) -> Result<(
         assert_eq!(rt; ended, Status::Fine);
     }
     Ok(())
+}
+
+#[test]
+fn decoders_without_a_run(rt: HostRuntime) -> Result<(), Fail> {
+    all_print(&rt, rt.alloc(), &QUIET)
 }
 
 #[test]

@@ -9,8 +9,8 @@ use vc_top::Status;
 /// queued, what comes after its end, and START; a drain that waits for CAPTURE.
 const QUIET: [(&str, &str); 3] = [
     (
-        "0 open enc\n0 sfmt out YUYV 17 17 0\n0 gfmt cap\n0 tryfmt out ZZZZ 1 1 0\n0 tryfmt out GREY 5000 5000 0\n0 gctl 1\n0 sctl 1 17\n0 sctl 5 1\n0 gctl 5\n0 gctl 4\n",
-        "0 open ok\n0 sfmt ok YUYV 18 17 612\n0 gfmt ok FWHT 18 17 1388\n0 tryfmt ok YU12 16 16 384\n0 tryfmt ok GREY 4096 2160 8847360\n0 gctl ok 10\n0 sctl EINVAL\n0 sctl EINVAL\n0 gctl ok 1\n0 gctl EINVAL\n",
+        "0 open enc\n0 gfmt out\n0 gfmt cap\n0 enum out 3\n0 enum out 4\n0 enum cap 1\n0 sfmt out YUYV 17 17 0\n0 gfmt cap\n0 tryfmt out ZZZZ 1 1 0\n0 tryfmt out GREY 5000 5000 0\n0 gctl 1\n0 sctl 1 17\n0 sctl 5 1\n0 gctl 5\n0 gctl 4\n0 sctl 2 31\n0 gctl 2\n0 create cap 1 2000\n0 sfmt out GREY 16 16 0\n",
+        "0 open ok\n0 gfmt ok YU12 352 288 152064\n0 gfmt ok FWHT 352 288 152108\n0 enum ok YUYV\n0 enum EINVAL\n0 enum EINVAL\n0 sfmt ok YUYV 18 17 612\n0 gfmt ok FWHT 18 17 1388\n0 tryfmt ok YU12 16 16 384\n0 tryfmt ok GREY 4096 2160 8847360\n0 gctl ok 10\n0 sctl EINVAL\n0 sctl EINVAL\n0 gctl ok 1\n0 gctl EINVAL\n0 sctl ok\n0 gctl ok 31\n0 create ok 0 1\n0 sfmt EBUSY\n",
     ),
     (
         "0 open enc\n0 req out 1\n0 req cap 1\n0 on out\n0 on cap\n0 sub 2\n0 ecmd 1\n0 ecmd 1\n0 ecmd 0\n0 dq cap\n0 q cap 0\n0 dq cap\n0 ev\n0 ev\n0 dq cap\n0 poll\n0 ecmd 1\n0 ecmd 0\n0 q cap 0\n0 dq cap\n0 dqw cap\n0 ecmd 7\n0 dcmd 0\n",
