@@ -4,8 +4,14 @@ pub mod Changing
 pub mod Claims
 pub mod Creating
 pub mod DecodeRuns
+pub mod Ending
+pub mod Finished
+pub mod Finishes
+pub mod Firming
+pub mod Fitting
 pub mod Layouts
 pub mod Made
+pub mod Moves
 pub mod Noting
 pub mod Opening
 pub mod Placing

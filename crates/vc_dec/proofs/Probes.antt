@@ -28,12 +28,12 @@ use Rattle.vc_dec.specs.Decoders.{CodecParts, decoder_state, IsPlaced, IsPicture
 use Rattle.vc_dec.specs.Parts.{limit_of}
 use Rattle.vc_dec.specs.Works.{IsProbeOf, CanProbe}
 use Rattle.vc_dec.proofs.Placing.{claim_placed}
-use Rattle.vc_dec.proofs.Claims.{IsClaim, stays_lent, front_filled, front_begun, lent_source, lent_job, lent_index, lent_some, lent_begun, lent_held, stream_there, kept_here, idle, source_front, no_dest, ordered, codec_here, free_after, claim_step, claim_holds, assembly_limit_is, in_step}
+use Rattle.vc_dec.proofs.Claims.{IsClaim, stays_lent, front_filled, front_begun, lent_source, lent_job, lent_index, lent_some, lent_begun, lent_held, stream_there, kept_here, idle, source_front, no_dest, ordered, codec_here, free_after, claim_step, claim_holds, claim_due, assembly_limit_is, in_step}
 
 -- the codec without its assembly
 abbrev pub without_assembly : CodecParts → CodecParts
 without_assembly parts =
-    record { state = decoder_of parts.state.reference nothing_kept; limit = None; rooms = parts.rooms }
+    record parts { state = decoder_of parts.state.reference nothing_kept; limit = None }
 
 -- a queue without a buffer in the job
 same_queue : (q : QueueState) → q.job ≡ [] → without_job_bytes q ≡ q
@@ -122,9 +122,12 @@ module _ (formats : FormatPair) (p : PairState) (events : EventState) (parts : C
           stream = tt;
           begun = lent_begun p.out p.out.ready refl inv.begun;
           untouched = subst AreUntouched (sym (lent_held p.out p.out.ready)) inv.untouched;
+          blank = inv.blank;
           knows = (lent_index p.out p.out.ready source some lent, rest);
           supplied = tt;
           served = served_idle;
+          lent = tt;
+          due = claim_due formats None p events parts job c view inv kept can;
         }
 
     claim_at : IsClaim formats None lent_pair events (without_assembly parts) taken c

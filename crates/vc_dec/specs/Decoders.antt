@@ -23,11 +23,12 @@ use Rattle.vc_dec.specs.declared.Dest.{Dest}
 use Rattle.vc_dec.specs.declared.InJob.{InJob}
 
 -- What the codec keeps from run to run, while no job has it: its state; the limit of the assembly, where that is there;
--- and for which lengths of CAPTURE buffers there are references.
+-- for which lengths of CAPTURE buffers there are references; and whether the present one is here.
 pub record CodecParts : Type 0 where
   pub state : DecoderState
   pub limit : Option ℕ
   pub rooms : List ℕ
+  pub present : Bool
 
 -- whether a job runs
 abbrev pub job_mark : Option InJob → Option Running
@@ -80,6 +81,21 @@ AreBegun bs = list_all (λ b. nat_le b.cursor b.used) bs ≡ true
 abbrev pub AreUntouched : List Buffer → Type 0
 AreUntouched bs = list_all (λ b. b.cursor == 0) bs ≡ true
 
+-- no byte of a buffer is used
+abbrev pub AreUnused : List Buffer → Type 0
+AreUnused bs = list_all (λ b. b.used == 0) bs ≡ true
+
+-- no byte is used of a CAPTURE buffer that is not done
+pub record AreBlank (cap : QueueState) : Type 0 where
+  pub held : AreUnused cap.held
+  pub ready : AreUnused cap.ready
+  pub job : AreUnused cap.job
+
+-- While a job runs its OUTPUT buffer is before the mark of a drain, where there is one.
+abbrev pub IsBeforeMark : PairState → Option InJob → Type 0
+IsBeforeMark p None = Unit {0}
+IsBeforeMark p (Some job) = is_due p.out.job p.mark ≡ true
+
 -- no buffer, or the one with the index and the length
 abbrev pub IsDestOf : Option Dest → List Buffer → Type 0
 IsDestOf None bs = bs ≡ []
@@ -99,6 +115,11 @@ IsSupplied size out limit (Some job) = Unit {0}
 abbrev pub lent_room : Option InJob → List ℕ
 lent_room None = []
 lent_room (Some job) = elim job.dest as (λ _. List ℕ) [ None ↦ [] | Some dest ↦ dest.length ∷ [] ]
+
+-- While a job has a reference no present one is here.
+abbrev pub IsLentOut : Bool → Option InJob → Type 0
+IsLentOut present None = Unit {0}
+IsLentOut present (Some job) = elim job.dest as (λ _. Type 0) [ None ↦ Unit {0} | Some dest ↦ present ≡ false ]
 
 -- whether there is a reference for buffers of the length
 abbrev pub serves : List ℕ → ℕ → Bool
@@ -126,9 +147,12 @@ pub record IsDecoder (formats : FormatPair) (geometry : Option Geometry) (p : Pa
   pub stream : IsOfStream formats.out.size geometry parts.state job
   pub begun : AreBegun p.out.ready
   pub untouched : AreUntouched p.out.held
+  pub blank : AreBlank p.cap
   pub knows : KnowsItsJob p job
   pub supplied : IsSupplied formats.out.size p.out parts.limit job
   pub served : AreServed (lent_room job ++ parts.rooms) p.cap
+  pub lent : IsLentOut parts.present job
+  pub due : IsBeforeMark p job
 
 -- the event of the end of a drain is raised
 abbrev pub end_raised : Bool → EventState → EventState

@@ -1,4 +1,5 @@
 pub mod Decoders
+pub mod Ends
 pub mod Parts
 pub mod Serving
 pub mod Works

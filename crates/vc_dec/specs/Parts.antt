@@ -1,6 +1,6 @@
 -- What the codec keeps, by its parts: an assembly for the bytes of frames, and references for the lengths of CAPTURE's
 -- buffers.
-use Rattle.std.specs.Prelude.{ℕ, ◌≡◌, Bool, true, false, map, Option, Some, None, List, [], ◌∷◌, ◌++◌}
+use Rattle.std.specs.Prelude.{ℕ, ◌≡◌, Bool, true, false, is_some, map, Option, Some, None, List, [], ◌∷◌, ◌++◌}
 use Rattle.std.specs.Option.{option_map}
 use Rattle.vc_defs.specs.Decoder.{ReferenceState, fresh_decoder}
 use Rattle.vc_defs.specs.Encoder.{fresh_encoder}
@@ -28,6 +28,7 @@ parts_of assembly present others =
       state = decoder_of (picture_of present) (kept_of assembly);
       limit = limit_of assembly;
       rooms = rooms_of present others;
+      present = is_some present;
     }
 
 -- an assembly that was made, where it was needed
@@ -40,19 +41,23 @@ abbrev pub new_reference : Bool → ℕ → Option CodecReference
 new_reference true size = Some (record { size = size; state = fresh_encoder })
 new_reference false size = None
 
+-- a codec without any memory
+abbrev pub no_parts : CodecParts
+no_parts = record { state = fresh_decoder; limit = None; rooms = []; present = false }
+
 -- nothing of a codec that begins anew is kept
-abbrev pub begun : Option ℕ → List ℕ → CodecParts
-begun limit rooms = record { state = fresh_decoder; limit = limit; rooms = rooms }
+abbrev pub begun : Option ℕ → CodecParts → CodecParts
+begun limit parts = record parts { state = fresh_decoder; limit = limit }
 
 -- a codec that begins anew with an assembly, where there is one
 abbrev pub supplied_with : Option AssemblyState → CodecParts → CodecParts
 supplied_with None parts = parts
-supplied_with (Some a) parts = begun (Some a.limit) parts.rooms
+supplied_with (Some a) parts = begun (Some a.limit) parts
 
 -- the references after one, where there is one, took the picture over
-abbrev pub rooms_after : Option CodecReference → List ℕ → List ℕ
-rooms_after None rooms = rooms
-rooms_after (Some r) rooms = r.size ∷ []
+abbrev pub replaced_by : Option CodecReference → CodecParts → CodecParts
+replaced_by None parts = parts
+replaced_by (Some r) parts = record parts { rooms = r.size ∷ []; present = true }
 
 -- a reference without a picture, where there is one, has room for this picture
 abbrev pub CanTakeOver : Option ReferenceState → Option CodecReference → Type 0
@@ -63,3 +68,23 @@ CanTakeOver picture (Some r) = (r.state ≡ fresh_encoder) × HasRoomFor picture
 abbrev pub rooms_with : Option CodecReference → List ℕ → List ℕ
 rooms_with None rooms = rooms
 rooms_with (Some r) rooms = rooms ++ r.size ∷ []
+
+-- a reference that comes back, where one does, finds no other one in the present place
+abbrev pub FindsItsPlace : Option CodecReference → Bool → Type 0
+FindsItsPlace None present = Unit {0}
+FindsItsPlace (Some r) present = present ≡ false
+
+-- the references with one that came back, where one did, as the present one
+abbrev pub present_with : Option CodecReference → CodecParts → CodecParts
+present_with None parts = parts
+present_with (Some r) parts = record parts { rooms = r.size ∷ parts.rooms; present = true }
+
+-- the picture after a run: that of the reference that came back, where one did
+abbrev pub picture_with : Option CodecReference → Option ReferenceState → Option ReferenceState
+picture_with None picture = picture
+picture_with (Some r) picture = r.state.reference
+
+-- what the codec keeps once it has its assembly and its reference back
+abbrev pub taken_back : Option AssemblyState → Option CodecReference → CodecParts → CodecParts
+taken_back assembly reference parts =
+    record (present_with reference parts) { state = decoder_of (picture_with reference parts.state.reference) (kept_of assembly); limit = limit_of assembly }

@@ -1,14 +1,15 @@
 //! What the codec keeps from run to run.
 
-ghost use Rattle.std.specs.Prelude.{◌≡◌, ◌==◌, None, [], IfOk, is_ok, if◌then◌else◌};
+ghost use Rattle.std.specs.Prelude.{◌≡◌, ◌==◌, IfOk, is_ok, if◌then◌else◌};
 ghost use Rattle.std.specs.List.{list_any};
 ghost use Rattle.vc_defs.specs.Decoder.{fresh_decoder};
 ghost use Rattle.vc_defs.specs.Finds.{nothing_kept};
 ghost use Rattle.vc_work.specs.Streams.{kept_of};
 ghost use Rattle.vc_dec.specs.Decoders.{serves};
-ghost use Rattle.vc_dec.specs.Parts.{begun, room_of, limit_of, supplied_with, rooms_after, rooms_with, CanTakeOver, new_assembly, new_reference};
+ghost use Rattle.vc_dec.specs.Parts.{no_parts, begun, room_of, limit_of, supplied_with, replaced_by, rooms_with, CanTakeOver, new_assembly, new_reference};
 
 mod lending;
+mod returning;
 
 use std::alloc::Global;
 use std::marker::Model;
@@ -85,7 +86,7 @@ fn is_as_long(reference: &Option<Reference>, length: usize) -> bool
 impl Codec {
     /// Nothing is kept.
     pub(crate) fn new(alloc: Global) -> Codec
-        ensures { result ≡ begun None [] }
+        ensures { result ≡ no_parts }
     {
         Codec {
             assembly: None,
@@ -109,7 +110,7 @@ impl Codec {
     /// Begins anew with another assembly, in which nothing is kept, or without one.
     pub(crate) fn begin(&mut self, assembly: Option<Assembly>)
         requires { kept_of assembly ≡ nothing_kept }
-        ensures { self.new ≡ begun (limit_of assembly) self.old.rooms }
+        ensures { self.new ≡ begun (limit_of assembly) self.old }
     {
         self.assembly = assembly;
         if let Some(reference) = &mut self.present {
@@ -137,7 +138,7 @@ impl Codec {
     /// Puts a reference, where there is one, in the place of all that are there. It takes the picture over.
     pub(crate) fn replace(&mut self, reference: Option<Reference>)
         requires { CanTakeOver self.old.state.reference reference }
-        ensures { self.new ≡ record self.old { rooms = rooms_after reference self.old.rooms } }
+        ensures { self.new ≡ replaced_by reference self.old }
     {
         let Some(mut reference) = reference else {
             return;

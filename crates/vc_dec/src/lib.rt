@@ -16,6 +16,7 @@ mod buffers;
 mod claiming;
 mod codec;
 mod commands;
+mod finishing;
 mod formats;
 mod jobs;
 mod making;

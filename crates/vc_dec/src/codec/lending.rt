@@ -1,6 +1,6 @@
 //! What the codec lends to a job.
 
-ghost use Rattle.std.specs.Prelude.{◌≡◌, ◌∷◌, [], ◌==◌, None, true, position};
+ghost use Rattle.std.specs.Prelude.{◌≡◌, ◌∷◌, [], ◌==◌, None, true, false, position};
 ghost use Rattle.std.specs.List.{list_any};
 ghost use Rattle.std.specs.List.Sorted.{IsPermutation};
 ghost use Rattle.vc_defs.specs.Decoder.{kept_bytes};
@@ -59,7 +59,7 @@ impl Codec {
     pub(crate) fn lend_assembly(&mut self) -> Option<Assembly>
         ensures kept { kept_of result ≡ kept_bytes self.old.state }
         ensures limit { limit_of result ≡ self.old.limit }
-        ensures left { self.new ≡ record { state = decoder_of self.old.state.reference nothing_kept; limit = None; rooms = self.old.rooms } }
+        ensures left { self.new ≡ record self.old { state = decoder_of self.old.state.reference nothing_kept; limit = None } }
     {
         self.assembly.take()
     }
@@ -71,7 +71,7 @@ impl Codec {
         ensures length { room_of result ≡ length ∷ [] }
         ensures picture { picture_of result ≡ self.old.state.reference }
         ensures rooms { IsPermutation self.old.rooms (length ∷ self.new.rooms) }
-        ensures left { self.new ≡ record { state = record self.old.state { reference = None }; limit = self.old.limit; rooms = self.new.rooms } }
+        ensures left { self.new ≡ record { state = record self.old.state { reference = None }; limit = self.old.limit; rooms = self.new.rooms; present = false } }
     {
         if !is_as_long(&self.present, length) {
             bring_forward(&mut self.present, &mut self.others, length);
