@@ -12,20 +12,22 @@ use Rattle.vc_base.specs.Buffers.{Buffer, QueueState, buffer_count, held_again, 
 use Rattle.vc_model.proofs.Queues.{length_back, queued_size}
 use Rattle.vc_queue.specs.Answers.{after_of}
 use Rattle.vc_context.specs.Contexts.{AreFilled}
-use Rattle.vc_dec.specs.Decoders.{AllLengths, AreBegun, AreUntouched}
+use Rattle.vc_dec.specs.Decoders.{AllLengths, AreBegun, AreUntouched, AreUnused, AreBlank}
 
 -- No more bytes of the ready buffers were consumed than are used, and none of those that the user holds.
 pub record IsBegun (q : QueueState) : Type 0 where
   pub ready : AreBegun q.ready
   pub held : AreUntouched q.held
 
--- The queue counts up, its buffer in the job stays there, what is done has room for what is used of it, and no bytes are consumed.
+-- The queue counts up, its buffer in the job stays there, what is done has room for what is used of it, no bytes are consumed, and
+-- CAPTURE's buffers stay blank.
 pub record Counts (old new : QueueState) : Type 0 where
   pub queued : new.next_ordinal ≤ old.next_ordinal + 1
   pub retired : new.next_seq ≤ old.next_seq
   pub job : new.job ≡ old.job
   pub done : AreFilled old.done → AreFilled new.done
   pub begun : IsBegun old → IsBegun new
+  pub blank : old.side ≡ Cap → AreBlank old → AreBlank new
 
 -- The queue counts up, and no buffer comes or goes.
 pub record Calls (old new : QueueState) : Type 0 where
@@ -36,7 +38,7 @@ pub record Calls (old new : QueueState) : Type 0 where
 
 pub no_change : (q : QueueState) → Counts q q
 no_change q =
-    record { queued = omega arith; retired = omega arith; job = refl; done = λ h. h; begun = λ h. h }
+    record { queued = omega arith; retired = omega arith; job = refl; done = λ h. h; begun = λ h. h; blank = λ s h. h }
 
 pub after_counts : (o : Option Errno) (q r : QueueState) → Counts q r → Counts q (after_of o q r)
 after_counts (Some e) q r c = no_change q
@@ -53,7 +55,7 @@ after_calls None q r c = c
 pub on_calls : (q : QueueState) → Calls q (streamon_after q)
 on_calls q =
     record {
-      counts = record { queued = omega arith; retired = omega arith; job = refl; done = λ h. h; begun = λ h. record { ready = h.ready; held = h.held } };
+      counts = record { queued = omega arith; retired = omega arith; job = refl; done = λ h. h; begun = λ h. record { ready = h.ready; held = h.held }; blank = λ s h. record { held = h.held; ready = h.ready; job = h.job } };
       gone = λ h. h;
       some = λ h. h;
       lengths = λ p a. record { held = a.held; ready = a.ready; job = a.job; done = a.done };
@@ -74,6 +76,10 @@ back_untouched : (bs : List Buffer) → AreUntouched (map held_again bs)
 back_untouched [] = refl
 back_untouched (b ∷ bs) = back_untouched bs
 
+back_unused : (bs : List Buffer) → AreUnused (map held_again bs)
+back_unused [] = refl
+back_unused (b ∷ bs) = back_unused bs
+
 pub off_calls : (q : QueueState) → Calls q (streamoff_after q)
 off_calls q =
     let l1 = length-append (q.held ++ map held_again q.ready) (map held_again q.done) in
@@ -81,7 +87,7 @@ off_calls q =
     let l3 = length_back q.ready in
     let l4 = length_back q.done in
     record {
-      counts = record { queued = omega arith; retired = omega arith; job = refl; done = λ h. refl; begun = λ h. record { ready = refl; held = both (λ b. b.cursor == 0) (q.held ++ map held_again q.ready) (map held_again q.done) (both (λ b. b.cursor == 0) q.held (map held_again q.ready) h.held (back_untouched q.ready)) (back_untouched q.done) } };
+      counts = record { queued = omega arith; retired = omega arith; job = refl; done = λ h. refl; begun = λ h. record { ready = refl; held = both (λ b. b.cursor == 0) (q.held ++ map held_again q.ready) (map held_again q.done) (both (λ b. b.cursor == 0) q.held (map held_again q.ready) h.held (back_untouched q.ready)) (back_untouched q.done) }; blank = λ s h. record { held = both (λ b. b.used == 0) (q.held ++ map held_again q.ready) (map held_again q.done) (both (λ b. b.used == 0) q.held (map held_again q.ready) h.held (back_unused q.ready)) (back_unused q.done); ready = refl; job = h.job } };
       gone = λ h. omega arith;
       some = λ h. omega arith;
       lengths = λ p a. record {
@@ -98,7 +104,7 @@ taken_calls q (b ∷ rest) e =
     let l1 = length-append q.held (held_again b ∷ []) in
     let l2 = ap length e in
     record {
-      counts = record { queued = omega arith; retired = omega arith; job = refl; done = λ h. (and_parts (nat_le b.used b.size) (list_all (λ x. nat_le x.used x.size) rest) (subst AreFilled e h)).1; begun = λ h. record { ready = h.ready; held = one_more (λ x. x.cursor == 0) q.held (held_again b) h.held refl } };
+      counts = record { queued = omega arith; retired = omega arith; job = refl; done = λ h. (and_parts (nat_le b.used b.size) (list_all (λ x. nat_le x.used x.size) rest) (subst AreFilled e h)).1; begun = λ h. record { ready = h.ready; held = one_more (λ x. x.cursor == 0) q.held (held_again b) h.held refl }; blank = λ s h. record { held = one_more (λ x. x.used == 0) q.held (held_again b) h.held refl; ready = h.ready; job = h.job } };
       gone = λ h. omega arith;
       some = λ h. omega arith;
       lengths = λ p a. let d = and_parts (p b.size) (list_all (λ x. p x.size) rest) (subst (λ (bs : List Buffer). list_all (λ x. p x.size) bs ≡ true) e a.done) in record {
@@ -141,6 +147,11 @@ fresh_begun Out b used stamp bytes ordinal e =
 fresh_begun Cap b used stamp bytes ordinal e =
     let z : b.cursor ≡ 0 = eqb-true b.cursor 0 e in le-leb b.cursor b.used (omega (arith, z))
 
+-- no byte is used of a CAPTURE buffer that is queued
+queued_unused : (side : Side) (b : Buffer) (used : ℕ) (stamp : Stamp) (bytes : List ℕ) (ordinal : ℕ) → side ≡ Cap → (b.used == 0) ≡ true → let x : Buffer = queued_buffer side b used stamp bytes ordinal in (x.used == 0) ≡ true
+queued_unused Out b used stamp bytes ordinal e h = absurd (cc)
+queued_unused Cap b used stamp bytes ordinal e h = h
+
 pub queued_calls : (q : QueueState) (index : ℕ) (f : Option Buffer) (used : ℕ) (stamp : Stamp) (bytes : List ℕ) → with_index index q.held ≡ f → Calls q (queue_held q index f used stamp bytes)
 queued_calls q index None used stamp bytes e = stays q
 queued_calls q index (Some b) used stamp bytes e =
@@ -149,7 +160,7 @@ queued_calls q index (Some b) used stamp bytes e =
     let l2 = found_some q.held index b e in
     let s : x.size ≡ b.size = queued_size q.side b used stamp bytes q.next_ordinal in
     record {
-      counts = record { queued = omega arith; retired = omega arith; job = refl; done = λ h. h; begun = λ h. record { ready = one_more (λ y. nat_le y.cursor y.used) q.ready x h.ready (fresh_begun q.side b used stamp bytes q.next_ordinal (found_fits (λ y. y.cursor == 0) q.held index b e h.held)); held = kept_fit (λ y. y.cursor == 0) (λ y. not (y.index == index)) q.held h.held } };
+      counts = record { queued = omega arith; retired = omega arith; job = refl; done = λ h. h; begun = λ h. record { ready = one_more (λ y. nat_le y.cursor y.used) q.ready x h.ready (fresh_begun q.side b used stamp bytes q.next_ordinal (found_fits (λ y. y.cursor == 0) q.held index b e h.held)); held = kept_fit (λ y. y.cursor == 0) (λ y. not (y.index == index)) q.held h.held }; blank = λ s h. record { held = kept_fit (λ y. y.used == 0) (λ y. not (y.index == index)) q.held h.held; ready = one_more (λ y. y.used == 0) q.ready x h.ready (queued_unused q.side b used stamp bytes q.next_ordinal s (found_fits (λ y. y.used == 0) q.held index b e h.held)); job = h.job } };
       gone = λ h. absurd (omega arith);
       some = λ h. omega arith;
       lengths = λ p a. record {

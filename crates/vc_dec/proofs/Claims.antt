@@ -1,19 +1,19 @@
 -- What every claim on a decoder context has in common.
-use Rattle.std.proofs.Common.{ℕ, ◌≡◌, ◌≤◌, ◌<◌, ◌==◌, leb, nat_le, Bool, true, false, not, ◌&&◌, Option, Some, None, List, [], ◌∷◌, map, length, refl, sym, ap, ◌∙◌, subst, arith, leb-true}
-use Rattle.std.specs.Prelude.{is_none}
-use Rattle.std.specs.List.{list_all}
+use Rattle.std.proofs.Common.{ℕ, ◌≡◌, ◌≤◌, ◌<◌, leb, nat_le, Bool, true, false, not, ◌&&◌, Option, Some, None, List, [], ◌∷◌, map, length, refl, sym, ap, ◌∙◌, subst, arith, leb-true, ◌+◌, ◌==◌, ◌||◌, ◌++◌, lt-ltb}
+use Rattle.std.specs.Prelude.{nat_lt, is_none}
+use Rattle.std.specs.List.{list_any, list_all}
 use Rattle.std.proofs.lemmas.Bool.{false≢true, and_parts}
-use Rattle.vc_base.specs.Buffers.{Buffer, QueueState, is_empty, buffer_count, lend_after, lend_front, without_bytes, without_job_bytes}
+use Rattle.vc_base.specs.Buffers.{lend_after, Buffer, QueueState, is_empty, buffer_count, lend_front, without_bytes, without_job_bytes}
 use Rattle.vc_base.specs.Events.{EventState}
 use Rattle.vc_defs.specs.declared.Geometry.{Geometry}
 use Rattle.vc_defs.specs.Decoder.{ReferenceState, DecoderState, kept_bytes}
 use Rattle.vc_defs.specs.Finds.{KeptBytes}
-use Rattle.vc_model.specs.Coder.{CodecState, decoder}
+use Rattle.vc_model.specs.Coder.{decoder}
 use Rattle.vc_model.specs.Formats.{FormatPair}
-use Rattle.vc_model.specs.Context.{Context, PhaseState, run, owe, last, stopped, is_run}
+use Rattle.vc_model.specs.Context.{Context, PhaseState, run, owe, last, stopped, is_run, is_drained}
 use Rattle.vc_model.specs.Core.{claimed_in}
 use Rattle.vc_model.specs.Runs.{is_claimable, after_claim, source_of}
-use Rattle.vc_model.specs.Sound.{IsOrdered}
+use Rattle.vc_model.specs.Sound.{CountsUp, IsOrdered}
 use Rattle.vc_model.specs.Standing.{without_job}
 use Rattle.vc_pair.specs.Pairs.{PairState, is_due}
 use Rattle.vc_queue.specs.declared.queue.Lent.{Lent}
@@ -26,7 +26,7 @@ use Rattle.vc_context.specs.Payloads.{FitsContext}
 use Rattle.vc_context.specs.Works.{RunsInWith}
 use Rattle.vc_context.proofs.Going.{IsLentOut}
 use Rattle.vc_dec.specs.declared.InJob.{InJob}
-use Rattle.vc_dec.specs.Decoders.{CodecParts, decoder_state, job_mark, codec_of, is_job_due, AreBegun, AllLengths, IsSupplied, IsOfStream, IsDecoder}
+use Rattle.vc_dec.specs.Decoders.{CodecParts, decoder_state, job_mark, codec_of, is_job_due, AreBegun, AreUnused, AreBlank, AllLengths, IsSupplied, IsOfStream, IsDecoder}
 use Rattle.vc_dec.specs.Parts.{limit_of}
 use Rattle.vc_dec.proofs.Answered.{due_cases}
 use Rattle.vc_dec.proofs.Placing.{sides, ordered_idle}
@@ -141,9 +141,49 @@ pub lent_begun : (q : QueueState) (bs : List Buffer) → q.ready ≡ bs → AreB
 lent_begun q [] e f = subst AreBegun (sym e) f
 lent_begun q (b ∷ rest) e f = (and_parts (nat_le b.cursor b.used) _ f).1
 
+-- the front of a queue is before the mark of a drain
+
+least : (bs : List Buffer) (first next mark : ℕ) → CountsUp bs first next → list_any (λ b. nat_lt b.ordinal mark) bs ≡ true → first < mark
+least [] first next mark c h = absurd (false≢true h)
+least (b ∷ rest) first next mark c h = by_front (nat_lt b.ordinal mark) refl (least rest (first + 1) next mark c.1) h
+  where
+    by_front : (t : Bool) → nat_lt b.ordinal mark ≡ t → (list_any (λ x. nat_lt x.ordinal mark) rest ≡ true → first + 1 < mark) → (t || list_any (λ x. nat_lt x.ordinal mark) rest) ≡ true → first < mark
+    by_front true e later g = let same : b.ordinal ≡ first = c.0 in grind (arith, e, same)
+    by_front false e later g = let l = later g in omega (arith, l)
+
+not_false : (b : Bool) → not b ≡ false → b ≡ true
+not_false true h = refl
+not_false false h = absurd (false≢true (sym h))
+
+front_due : (bs : List Buffer) (mark : Option ℕ) (first next : ℕ) → is_empty bs ≡ false → CountsUp bs first next → is_drained bs mark ≡ false → is_due bs mark ≡ true
+front_due [] mark first next e c h = absurd (false≢true (sym e))
+front_due (b ∷ rest) None first next e c h = refl
+front_due (b ∷ rest) (Some mark) first next e c h =
+    let l = least (b ∷ rest) first next mark c (not_false (list_any (λ x. nat_lt x.ordinal mark) (b ∷ rest)) h) in
+    let same : b.ordinal ≡ first = c.0 in
+    lt-ltb b.ordinal mark (omega (arith, l, same))
+
+pub lent_due : (q : QueueState) (bs : List Buffer) (mark : Option ℕ) → is_due bs mark ≡ true → is_due (without_job_bytes (lend_front q bs)).job mark ≡ true
+lent_due q [] mark h = absurd (false≢true h)
+lent_due q (b ∷ rest) None h = refl
+lent_due q (b ∷ rest) (Some mark) h = h
+
+not_drained : (a b c d : Bool) → (a && (b && (c && d))) ≡ false → a ≡ true → b ≡ true → c ≡ true → d ≡ false
+not_drained true true true d h x y z = h
+not_drained true true false d h x y z = absurd (false≢true z)
+not_drained true false c d h x y z = absurd (false≢true y)
+not_drained false b c d h x y z = absurd (false≢true x)
+
 pub lent_held : (q : QueueState) (bs : List Buffer) → (lend_front q bs).held ≡ q.held
 lent_held q [] = refl
 lent_held q (b ∷ rest) = refl
+
+-- no byte is used of a CAPTURE queue's buffers where its front is in the job
+pub lent_blank : (q : QueueState) (bs : List Buffer) → q.ready ≡ bs → is_empty bs ≡ false → AreBlank q → AreBlank (without_job_bytes (lend_front q bs))
+lent_blank q [] e n a = absurd (false≢true (sym n))
+lent_blank q (b ∷ rest) e n a =
+    let r = and_parts (b.used == 0) (list_all (λ x. x.used == 0) rest) (subst AreUnused e a.ready) in
+    record { held = a.held; ready = r.1; job = ap (λ t. t && true) r.0 }
 
 pub lent_lengths : (f : ℕ → Bool) (q : QueueState) (bs : List Buffer) → q.ready ≡ bs → is_empty bs ≡ false → AllLengths f q → AllLengths f (without_job_bytes (lend_front q bs))
 lent_lengths f q [] e n a = absurd (false≢true (sym n))
@@ -224,6 +264,19 @@ module _ (formats : FormatPair) (geometry : Option Geometry) (p : PairState) (ev
       supplied_idle : (j : Option InJob) → j ≡ None → IsSupplied formats.out.size p.out parts.limit j → 0 < buffer_count p.out → parts.limit ≡ Some formats.out.size
       supplied_idle None n s some = s some
       supplied_idle (Some x) n s some = absurd (cc)
+
+  -- the source is before the mark of a drain
+  before_mark : (g : Option Geometry) → is_job_due g p ≡ true → is_due p.out.ready p.mark ≡ true
+  before_mark None h = (and_parts p.out.streams (is_due p.out.ready p.mark) h).1
+  before_mark (Some x) h =
+      let f : HasFront p.cap = works p.cap (and_parts (has_work p.out) (has_work p.cap) h).1 in
+      let u = ordered.firm.out.latest in
+      let counts : CountsUp p.out.ready u.first p.out.next_ordinal = subst (λ (bs : List Buffer). CountsUp (bs ++ p.out.ready) u.first p.out.next_ordinal) no_source u.counts in
+      let free = and_parts (is_none (job_mark job)) (is_run p.phase) free_due in
+      front_due p.out.ready p.mark u.first p.out.next_ordinal source_front.some counts (not_drained (is_run p.phase) p.cap.streams (is_none (job_mark job)) (is_drained p.out.ready p.mark) ordered.settled.noted free.1 f.streams free.0)
+
+  pub claim_due : is_due (without_job_bytes (lend_after p.out)).job p.mark ≡ true
+  claim_due = lent_due p.out p.out.ready p.mark (before_mark geometry work_due)
 
   pub in_step : IsInStep formats.out.size geometry parts.state.reference (kept_bytes parts.state)
   in_step = subst (λ (j : Option InJob). IsOfStream formats.out.size geometry parts.state j) idle inv.stream

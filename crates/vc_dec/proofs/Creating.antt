@@ -21,10 +21,10 @@ use Rattle.vc_resync.specs.Assembling.{AssemblyState}
 use Rattle.vc_context.specs.Contexts.{IsKept, IsStep, Gives, GivesWithMemory}
 use Rattle.vc_dec.specs.declared.InJob.{InJob}
 use Rattle.vc_dec.specs.declared.Decoder.TheInside.{Inside}
-use Rattle.vc_dec.specs.Decoders.{CodecParts, decoder_state, IsDecoder, IsPlaced, IsPictureOf, IsOfStream, IsSupplied, AreServed, lent_room, serves, events_settled}
+use Rattle.vc_dec.specs.Decoders.{CodecParts, decoder_state, IsDecoder, IsPlaced, IsPictureOf, IsOfStream, IsSupplied, AreServed, lent_room, serves, events_settled, IsLentOut}
 use Rattle.vc_dec.specs.Parts.{new_assembly, new_reference, supplied_with, rooms_with}
 use Rattle.vc_dec.proofs.Calling.{no_change}
-use Rattle.vc_dec.proofs.Serving.{CountsBoth, settle_at, same_jobs, agree_here, place, settled_so, begun_so, knows_so, steps, supplied_cases}
+use Rattle.vc_dec.proofs.Serving.{CountsBoth, settle_at, same_jobs, agree_here, place, settled_so, begun_so, knows_so, steps, supplied_cases, blank_so, due_so}
 use Rattle.vc_dec.proofs.Made.{made, unless_none, gives_found, gives_none, created_counts, created_gone, created_some, created_lengths, lengths_more, serves_front, serves_back, serves_one, serves_more}
 
 module _ (d : Inside) (c : Context) (view : decoder_state (pair_of d.formats) d.geometry d.pair d.events d.codec.state d.job ≡ c) (inv : IsDecoder (pair_of d.formats) d.geometry d.pair d.events d.codec d.job) where
@@ -58,7 +58,7 @@ module _ (d : Inside) (c : Context) (view : decoder_state (pair_of d.formats) d.
 
     counts : CountsBoth d.pair q
     counts =
-        record { out = created_counts d.pair.out count length; cap = no_change d.pair.cap; filled = λ h. h }
+        record { out = created_counts d.pair.out count length; cap = no_change d.pair.cap; filled = λ h. h; due = λ h. h }
 
     -- the codec has begun anew already
     state_cases : (b : Bool) → ((b ≡ true) → d.codec.state ≡ fresh_decoder) → (supplied_with (new_assembly b d.formats.out.size) d.codec).state ≡ d.codec.state
@@ -103,6 +103,10 @@ module _ (d : Inside) (c : Context) (view : decoder_state (pair_of d.formats) d.
     same_rooms None = refl
     same_rooms (Some x) = refl
 
+    same_present : (o : Option AssemblyState) → (supplied_with o d.codec).present ≡ d.codec.present
+    same_present None = refl
+    same_present (Some x) = refl
+
     supplied_cases_new : (j : Option InJob) (x y : Bool) → eqb (buffer_count d.pair.out) 0 ≡ x → nat_lt 0 count ≡ y → IsSupplied d.formats.out.size d.pair.out d.codec.limit j → IsSupplied d.formats.out.size (create_after d.pair.out count length) (supplied_with (new_assembly (x && y) d.formats.out.size) d.codec).limit j
     supplied_cases_new (Some z) x y ex ey s = tt
     supplied_cases_new None true true ex ey s = λ h. refl
@@ -122,6 +126,7 @@ module _ (d : Inside) (c : Context) (view : decoder_state (pair_of d.formats) d.
         let s = settled_so (pair_of d.formats) d.geometry d.pair d.events d.codec d.job inv q new es counts is_settled is_noted in
         let b = begun_so (pair_of d.formats) d.geometry d.pair d.events d.codec d.job inv q new es counts is_settled is_noted in
         let rooms : codec.rooms ≡ d.codec.rooms = ap (λ (x : CodecParts). x.rooms) ec ∙ same_rooms assembly in
+        let present : codec.present ≡ d.codec.present = ap (λ (x : CodecParts). x.present) ec ∙ same_present assembly in
         record {
           stands = inv.stands;
           sized = inv.sized;
@@ -134,6 +139,9 @@ module _ (d : Inside) (c : Context) (view : decoder_state (pair_of d.formats) d.
           knows = knows_so (pair_of d.formats) d.geometry d.pair d.events d.codec d.job inv q new es counts is_settled is_noted (pair_of d.formats) d.geometry codec.state sources_placed;
           supplied = subst (λ (x : QueueState). IsSupplied d.formats.out.size x codec.limit d.job) (sym s.out) supplied_new;
           served = subst (λ (rs : List ℕ). AreServed (lent_room d.job ++ rs) new.cap) (sym rooms) (s.lengths _ inv.served);
+          blank = blank_so (pair_of d.formats) d.geometry d.pair d.events d.codec d.job inv q new es counts is_settled is_noted;
+          lent = subst (λ (b : Bool). IsLentOut b d.job) (sym present) inv.lent;
+          due = due_so (pair_of d.formats) d.geometry d.pair d.events d.codec d.job inv q new es counts is_settled is_noted;
         }
 
   -- on CAPTURE
@@ -154,6 +162,9 @@ module _ (d : Inside) (c : Context) (view : decoder_state (pair_of d.formats) d.
         stream = inv.stream;
         begun = inv.begun;
         untouched = inv.untouched;
+        blank = inv.blank;
+        lent = inv.lent;
+        due = inv.due;
         knows = inv.knows;
         supplied = inv.supplied;
         served = lengths_more _ _ (λ z. serves_more (lent_room d.job) d.codec.rooms (rooms_with r d.codec.rooms) z (rooms_more r d.codec.rooms z)) d.pair.cap inv.served;
@@ -191,7 +202,7 @@ module _ (d : Inside) (c : Context) (view : decoder_state (pair_of d.formats) d.
 
     to_counts : CountsBoth d.pair to
     to_counts =
-        record { out = no_change d.pair.out; cap = created_counts d.pair.cap count length; filled = λ h. h }
+        record { out = no_change d.pair.out; cap = created_counts d.pair.cap count length; filled = λ h. h; due = λ h. h }
 
     to_agree : JobsAgree (at to d.events d.codec.state)
     to_agree =
@@ -244,4 +255,7 @@ module _ (d : Inside) (c : Context) (view : decoder_state (pair_of d.formats) d.
           knows = knows_so (pair_of d.formats) d.geometry d.pair d.events d.codec d.job inv to new es to_counts to_settled to_noted (pair_of d.formats) d.geometry codec.state dests_placed;
           supplied = supplied_cases d.job d.formats.out.size d.pair.out new.out d.codec.limit (λ h. subst (λ (x : QueueState). 0 < buffer_count x) s.out h) inv.supplied;
           served = s.lengths _ served_new;
+          blank = blank_so (pair_of d.formats) d.geometry d.pair d.events d.codec d.job inv to new es to_counts to_settled to_noted;
+          lent = inv.lent;
+          due = due_so (pair_of d.formats) d.geometry d.pair d.events d.codec d.job inv to new es to_counts to_settled to_noted;
         })

@@ -1,10 +1,10 @@
 -- A claim of a decode run.
-use Rattle.std.proofs.Common.{ℕ, ◌≡◌, ◌<◌, ◌≤◌, leb, Option, Some, None, List, [], ◌∷◌, ◌++◌, true, false, map, length, refl, sym, ap, ◌∙◌, subst, arith, leb-true}
+use Rattle.std.proofs.Common.{ℕ, ◌≡◌, ◌<◌, ◌≤◌, leb, Option, Some, None, List, [], ◌∷◌, ◌++◌, true, false, length, refl, sym, ap, ◌∙◌, subst, arith, leb-true}
 use Rattle.std.specs.Prelude.{vec_len}
 use Rattle.std.specs.List.Sorted.{IsPermutation}
 use Rattle.vc_base.specs.declared.Format.{Format}
 use Rattle.vc_base.specs.declared.Kind.TheVariants.{Dec}
-use Rattle.vc_base.specs.Buffers.{Buffer, QueueState, is_empty, buffer_count, lend_after, lend_front, without_bytes, without_job_bytes}
+use Rattle.vc_base.specs.Buffers.{Buffer, QueueState, is_empty, buffer_count, lend_after, lend_front, without_job_bytes}
 use Rattle.vc_base.specs.Events.{EventState}
 use Rattle.vc_defs.specs.declared.Geometry.{Geometry}
 use Rattle.vc_defs.specs.Decoder.{ReferenceState, DecoderState, kept_bytes}
@@ -36,7 +36,7 @@ use Rattle.vc_dec.specs.Works.{IsRunOver, CanDecode}
 use Rattle.vc_dec.proofs.Placing.{claim_placed}
 use Rattle.vc_dec.proofs.Made.{has_room, lengths_more}
 use Rattle.vc_dec.proofs.Changing.{same_serve}
-use Rattle.vc_dec.proofs.Claims.{IsClaim, HasFront, front_filled, front_begun, front_length, lent_source, lent_job, lent_index, lent_size, lent_some, lent_begun, lent_held, lent_lengths, stream_there, kept_here, idle, claim_phase, source_front, dest_front, ordered, codec_here, free_after, claim_step, claim_holds, assembly_limit_is, in_step}
+use Rattle.vc_dec.proofs.Claims.{IsClaim, HasFront, front_filled, front_begun, front_length, lent_source, lent_job, lent_index, lent_size, lent_some, lent_begun, lent_held, lent_blank, lent_lengths, stream_there, kept_here, idle, claim_phase, source_front, dest_front, ordered, codec_here, free_after, claim_step, claim_holds, claim_due, assembly_limit_is, in_step}
 
 -- What the codec lends to a run, and what is left of it: the reference for a destination of the length first, and then the
 -- assembly.
@@ -44,10 +44,10 @@ pub record IsLending (parts mid left : CodecParts) (reference : Option CodecRefe
   pub long : room_of reference ≡ n ∷ []
   pub picture : picture_of reference ≡ parts.state.reference
   pub rooms : IsPermutation parts.rooms (n ∷ mid.rooms)
-  pub between : mid ≡ record { state = record parts.state { reference = None }; limit = parts.limit; rooms = mid.rooms }
+  pub between : mid ≡ record { state = record parts.state { reference = None }; limit = parts.limit; rooms = mid.rooms; present = false }
   pub kept : kept_of assembly ≡ kept_bytes mid.state
   pub limit : limit_of assembly ≡ mid.limit
-  pub after : left ≡ record { state = decoder_of mid.state.reference nothing_kept; limit = None; rooms = mid.rooms }
+  pub after : left ≡ record mid { state = decoder_of mid.state.reference nothing_kept; limit = None }
 
 -- the number of bytes of a payload
 pub payload_length : (lent : Lent) (n : ℕ) → n ≡ vec_len lent.payload → n ≡ length lent.payload.items
@@ -188,9 +188,12 @@ module _ (formats : FormatPair) (g : Geometry) (p : PairState) (events : EventSt
             stream = tt;
             begun = lent_begun p.out p.out.ready refl inv.begun;
             untouched = subst AreUntouched (sym (lent_held p.out p.out.ready)) inv.untouched;
+            blank = lent_blank p.cap p.cap.ready refl front.some inv.blank;
             knows = (lent_index p.out p.out.ready source some lent, (lent_index p.cap p.cap.ready dest front.some to, lent_size p.cap p.cap.ready dest n front.some to en));
             supplied = tt;
             served = served_left;
+            lent = ap (λ (x : CodecParts). x.present) lends.after ∙ ap (λ (x : CodecParts). x.present) lends.between;
+            due = claim_due formats (Some g) p events parts job c view inv kept can;
           }
 
       claim_at : IsClaim formats (Some g) lent_pair events left taken c

@@ -28,7 +28,7 @@ use Rattle.vc_queue.specs.Answers.{answer_of, after_of}
 use Rattle.vc_queue.specs.Growing.{with_memory, AnswersWithMemory}
 use Rattle.vc_work.specs.References.{picture_total, HasRoomFor}
 use Rattle.vc_context.specs.Contexts.{IsKept, IsStep, Gives, GivesWithMemory}
-use Rattle.vc_dec.specs.Decoders.{IsPictureOf, AreUntouched, AllLengths, serves}
+use Rattle.vc_dec.specs.Decoders.{IsPictureOf, AreUntouched, AllLengths, serves, AreUnused}
 use Rattle.vc_dec.proofs.Calling.{Counts}
 
 -- memory that is found, and memory that isn't
@@ -123,9 +123,13 @@ new_untouched : (size first n : ℕ) → AreUntouched (new_buffers size first n)
 new_untouched size first zero = refl
 new_untouched size first (suc n) = new_untouched size (first + 1) n
 
+new_unused : (size first n : ℕ) → AreUnused (new_buffers size first n)
+new_unused size first zero = refl
+new_unused size first (suc n) = new_unused size (first + 1) n
+
 pub requested_counts : (q : QueueState) (count size : ℕ) → q.job ≡ [] → Counts q (reqbufs_after q count size)
 requested_counts q count size e =
-    record { queued = omega arith; retired = omega arith; job = sym e; done = λ h. refl; begun = λ h. record { ready = refl; held = new_untouched size 0 (min count 32) } }
+    record { queued = omega arith; retired = omega arith; job = sym e; done = λ h. refl; begun = λ h. record { ready = refl; held = new_untouched size 0 (min count 32) }; blank = λ s h. record { held = new_unused size 0 (min count 32); ready = refl; job = refl } }
 
 pub created_counts : (q : QueueState) (count size : ℕ) → Counts q (create_after q count size)
 created_counts q count size =
@@ -135,6 +139,7 @@ created_counts q count size =
       job = refl;
       done = λ h. h;
       begun = λ h. record { ready = h.ready; held = list_all-append (λ b. b.cursor == 0) q.held (new_buffers size (buffer_count q) (created q count)) ∙ and_from (list_all (λ b. b.cursor == 0) q.held) (list_all (λ b. b.cursor == 0) (new_buffers size (buffer_count q) (created q count))) h.held (new_untouched size (buffer_count q) (created q count)) };
+      blank = λ s h. record { held = list_all-append (λ b. b.used == 0) q.held (new_buffers size (buffer_count q) (created q count)) ∙ and_from (list_all (λ b. b.used == 0) q.held) (list_all (λ b. b.used == 0) (new_buffers size (buffer_count q) (created q count))) h.held (new_unused size (buffer_count q) (created q count)); ready = h.ready; job = h.job };
     }
 
 -- references

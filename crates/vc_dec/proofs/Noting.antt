@@ -54,9 +54,12 @@ module _ (d : Inside) (c : Context) (view : decoder_state (pair_of d.formats) d.
         stream = inv.stream;
         begun = inv.begun;
         untouched = inv.untouched;
+        blank = inv.blank;
         knows = inv.knows;
         supplied = inv.supplied;
         served = inv.served;
+        lent = inv.lent;
+        due = inv.due;
       }
 
   event_serves : (a : Answer) (reply : Reply) (new : EventState) → new.next_seq ≤ d.events.next_seq + 1 → Gives a reply (at new) → IsKept before → Serves a reply before (at new)
@@ -204,9 +207,12 @@ module _ (d : Inside) (c : Context) (view : decoder_state (pair_of d.formats) d.
           stream = rw (ef, eg) (stream_at side d.job (λ e. inv.fresh (no_sources side free_here e)) inv.stream);
           begun = inv.begun;
           untouched = inv.untouched;
+          blank = inv.blank;
           knows = inv.knows;
           supplied = rw ef (supplied_at side d.job (no_sources side free_here) inv.supplied);
           served = inv.served;
+          lent = inv.lent;
+          due = inv.due;
         }
 
     pub set_serves : (reply : Reply) → reply ≡ Fmt (format_of formats side) → IsKept c → Serves (set_answer c side want) reply c set

@@ -1,5 +1,5 @@
 -- A context that is in its place stays so at every call, and settles as its queues do.
-use Rattle.std.proofs.Common.{ℕ, ◌≡◌, Bool, true, false, ◌&&◌, Option, Some, None, List, [], ◌∷◌, map, length, refl, sym, ap, ◌∙◌, subst, arith}
+use Rattle.std.proofs.Common.{ℕ, ◌≡◌, Bool, true, false, ◌&&◌, Option, Some, None, List, [], ◌∷◌, map, length, refl, sym, ap, ◌∙◌, subst, arith, ◌+◌, ◌++◌}
 use Rattle.std.specs.Prelude.{is_none}
 use Rattle.std.specs.Option.{option_map}
 use Rattle.vc_base.specs.declared.Side.TheVariants.{Out, Cap}
@@ -9,7 +9,7 @@ use Rattle.vc_base.specs.declared.Call.TheVariants.{Open}
 use Rattle.vc_base.specs.Buffers.{Buffer, is_empty, without_bytes}
 use Rattle.vc_model.specs.Context.{Context, Slot, Running, PhaseState, run, owe, last, stopped, is_run, is_drained, fresh_context}
 use Rattle.vc_model.specs.Answer.{Answer, answer, closed_answer, context_answer}
-use Rattle.vc_model.specs.Sound.{HasItsBuffers, IsOrdered, IsOrderedSlot, IsSoundButUnsettled, IsSettled as IsSettledContext, last_not_given}
+use Rattle.vc_model.specs.Sound.{HasItsBuffers, IsOrdered, IsOrderedSlot, IsSoundButUnsettled, IsSettled as IsSettledContext, last_not_given, CountsUp, CountsUpToNext}
 use Rattle.vc_model.specs.Standing.{some_job, without_job, without_data_of, core_answer}
 use Rattle.vc_model.proofs.Answering.{answer_sound}
 use Rattle.vc_model.specs.Coder.{the_coder}
@@ -117,6 +117,20 @@ runs c p e =
     let w : Context = p.whole in
     let busy : is_none w.running ≡ false = sym (whole_running w w.running refl) ∙ (ap (λ (x : Context). is_none x.running) p.without ∙ e) in
     subst (λ (x : Context). is_run x.phase ≡ true) p.without (whole_runs w w.running p.ordered.firm.has_buffers busy)
+
+-- the OUTPUT buffers that wait for a run were queued one after another
+whole_latest : (w : Context) (o : Option Running) → CountsUpToNext w.out → CountsUpToNext (without_data_of w o).out
+whole_latest w None u = u
+whole_latest w (Some r) u =
+    record { first = u.first; counts = without_counts w.out.job w.out.ready u.first w.out.next_ordinal u.counts }
+  where
+    without_counts : (bs rest : List Buffer) (first next : ℕ) → CountsUp (bs ++ rest) first next → CountsUp (map without_bytes bs ++ rest) first next
+    without_counts [] rest first next c = c
+    without_counts (b ∷ bs) rest first next c = (c.0, without_counts bs rest (first + 1) next c.1)
+
+pub latest : (c : Context) → IsPlaced c → CountsUpToNext c.out
+latest c p =
+    subst (λ (x : Context). CountsUpToNext x.out) p.without (whole_latest p.whole p.whole.running p.ordered.firm.out.latest)
 
 -- while no job runs the context is one of the device itself
 pub ordered_idle : (c : Context) → IsPlaced c → c.running ≡ None → IsOrdered c

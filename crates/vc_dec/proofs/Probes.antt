@@ -1,22 +1,21 @@
 -- A claim of a probe.
-use Rattle.std.proofs.Common.{ℕ, ◌≡◌, ◌<◌, Option, Some, None, List, [], ◌∷◌, ◌++◌, true, false, map, length, refl, sym, ap, ◌∙◌, subst, arith}
+use Rattle.std.proofs.Common.{◌≡◌, ◌<◌, Option, Some, None, List, [], ◌∷◌, ◌++◌, true, false, map, length, refl, sym, ap, ◌∙◌, subst, arith}
 use Rattle.vc_base.specs.Buffers.{Buffer, QueueState, is_empty, buffer_count, lend_after, without_bytes, without_job_bytes}
 use Rattle.vc_base.specs.Events.{EventState}
 use Rattle.vc_defs.specs.declared.Geometry.{Geometry}
 use Rattle.vc_defs.specs.Decoder.{ReferenceState, DecoderState, kept_bytes}
-use Rattle.vc_defs.specs.Finds.{KeptBytes, nothing_kept}
-use Rattle.vc_model.specs.Coder.{CodecState, decoder}
+use Rattle.vc_defs.specs.Finds.{nothing_kept}
+use Rattle.vc_model.specs.Coder.{decoder}
 use Rattle.vc_model.specs.Formats.{FormatPair}
 use Rattle.vc_model.specs.Context.{Context, probe}
 use Rattle.vc_model.specs.Core.{claimed_in}
-use Rattle.vc_model.specs.Runs.{JobData, is_claimable, after_claim, claim_front, running_of, job_data, source_of}
+use Rattle.vc_model.specs.Runs.{JobData, is_claimable, after_claim, claim_front, running_of, job_data}
 use Rattle.vc_model.specs.Sound.{HasCodec as HasCodecOfKind}
 use Rattle.vc_model.specs.Standing.{without_job, job_in}
 use Rattle.vc_base.specs.declared.Kind.TheVariants.{Dec}
 use Rattle.vc_pair.specs.Pairs.{PairState}
 use Rattle.vc_queue.specs.declared.queue.Lent.{Lent}
-use Rattle.vc_queue.specs.Holds.{HoldState}
-use Rattle.vc_queue.specs.Lending.{IsLent, IsLentFrom}
+use Rattle.vc_queue.specs.Lending.{IsLentFrom}
 use Rattle.vc_queue.proofs.Keeping.{fits_lent}
 use Rattle.vc_resync.specs.Assembling.{AssemblyState}
 use Rattle.vc_work.specs.declared.work.Work.{Work}
@@ -27,14 +26,14 @@ use Rattle.vc_context.proofs.Going.{lent_out}
 use Rattle.vc_dec.specs.declared.InJob.{InJob}
 use Rattle.vc_dec.specs.Decoders.{CodecParts, decoder_state, IsPlaced, IsPictureOf, AreServed, AreUntouched, lent_room, IsDecoder}
 use Rattle.vc_dec.specs.Parts.{limit_of}
-use Rattle.vc_dec.specs.Works.{IsPiece, IsProbeOf, CanProbe}
+use Rattle.vc_dec.specs.Works.{IsProbeOf, CanProbe}
 use Rattle.vc_dec.proofs.Placing.{claim_placed}
-use Rattle.vc_dec.proofs.Claims.{IsClaim, stays_lent, front_filled, front_begun, lent_source, lent_job, lent_index, lent_some, lent_begun, lent_held, stream_there, kept_here, idle, claim_phase, source_front, no_source, no_dest, ordered, codec_here, free_after, claim_step, claim_holds, assembly_limit_is, in_step}
+use Rattle.vc_dec.proofs.Claims.{IsClaim, stays_lent, front_filled, front_begun, lent_source, lent_job, lent_index, lent_some, lent_begun, lent_held, stream_there, kept_here, idle, source_front, no_dest, ordered, codec_here, free_after, claim_step, claim_holds, claim_due, assembly_limit_is, in_step}
 
 -- the codec without its assembly
 abbrev pub without_assembly : CodecParts → CodecParts
 without_assembly parts =
-    record { state = decoder_of parts.state.reference nothing_kept; limit = None; rooms = parts.rooms }
+    record parts { state = decoder_of parts.state.reference nothing_kept; limit = None }
 
 -- a queue without a buffer in the job
 same_queue : (q : QueueState) → q.job ≡ [] → without_job_bytes q ≡ q
@@ -123,9 +122,12 @@ module _ (formats : FormatPair) (p : PairState) (events : EventState) (parts : C
           stream = tt;
           begun = lent_begun p.out p.out.ready refl inv.begun;
           untouched = subst AreUntouched (sym (lent_held p.out p.out.ready)) inv.untouched;
+          blank = inv.blank;
           knows = (lent_index p.out p.out.ready source some lent, rest);
           supplied = tt;
           served = served_idle;
+          lent = tt;
+          due = claim_due formats None p events parts job c view inv kept can;
         }
 
     claim_at : IsClaim formats None lent_pair events (without_assembly parts) taken c

@@ -29,7 +29,7 @@ use Rattle.vc_dec.specs.declared.Decoder.TheInside.{Inside}
 use Rattle.vc_dec.specs.Decoders.{decoder_state, IsDecoder, IsPlaced, events_settled}
 use Rattle.vc_dec.proofs.Calling.{Calls, queued_calls, taken_calls}
 use Rattle.vc_dec.proofs.Placing.{sides}
-use Rattle.vc_dec.proofs.Serving.{Turns, turns_out, turns_cap, turns_after, counted, JobsStay, jobs_stay, settle_at, still_at, same_jobs, quiet_here, agree_here, place, keeps, steps, gives_call, keeps_call, steps_call}
+use Rattle.vc_dec.proofs.Serving.{Turns, turns_out, turns_cap, turns_after, counted, JobsStay, jobs_stay, settle_at, still_at, same_jobs, quiet_here, agree_here, place, keeps, steps, gives_call, keeps_call, steps_call, IsSourceDue, none_due}
 
 -- QBuf on CAPTURE does not look at the bytes
 
@@ -130,6 +130,16 @@ last_cap p (last change) true = refl
 last_cap p (last change) false = refl
 last_cap p (stopped cause) emptied = refl
 
+-- the LAST buffer that ends a drain takes the mark with it
+last_due : (p : PairState) (phase : PhaseState) (emptied : Bool) → IsSourceDue p → IsSourceDue (pair_at_last p phase emptied)
+last_due p run emptied h = h
+last_due p (owe cause) emptied h = h
+last_due p (last drain) true h = none_due p.out.job p.mark h
+last_due p (last drain) false h = h
+last_due p (last change) true h = h
+last_due p (last change) false h = h
+last_due p (stopped cause) emptied h = h
+
 taken_turns : (p : PairState) (side : Side) → Turns p (pair_taken p side)
 taken_turns p Out =
     turns_out p (dqbuf_after p.out) (taken_calls p.out p.out.done refl) (λ f. subst AreFilled (sym (taken_ready p.out p.out.done)) f)
@@ -142,6 +152,7 @@ taken_turns p Cap =
       out = subst (λ (x : QueueState). Calls p.out x) (sym eo) t.out;
       cap = subst (λ (x : QueueState). Calls p.cap x) (sym ec) t.cap;
       filled = λ f. subst (λ (x : QueueState). AreFilled x.ready) (sym eo) f;
+      due = λ h. last_due q q.phase (is_empty (dqbuf_after p.cap).done) h;
     }
 
 front_room : (b : Buffer) (rest bs : List Buffer) → bs ≡ b ∷ rest → AreFilled bs → b.used ≤ b.size

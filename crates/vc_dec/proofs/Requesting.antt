@@ -1,12 +1,12 @@
 -- ReqBufs.
-use Rattle.std.proofs.Common.{ℕ, ◌≡◌, ◌≤◌, ◌<◌, Bool, true, false, Option, Some, None, Ok, [], ◌∷◌, ◌++◌, refl, sym, ap, ◌∙◌, subst, arith}
+use Rattle.std.proofs.Common.{ℕ, ◌≡◌, ◌≤◌, ◌<◌, Bool, true, false, Option, Some, None, Ok, [], ◌∷◌, ◌++◌, refl, sym, ap, ◌∙◌, subst, arith, List}
 use Rattle.std.specs.Prelude.{min, nat_lt, is_none}
 use Rattle.std.proofs.lemmas.Bool.{false≢true, ltb-false}
 use Rattle.vc_base.specs.declared.Side.TheVariants.{Out, Cap}
 use Rattle.vc_base.specs.declared.Errno.TheVariants.{Busy}
 use Rattle.vc_base.specs.declared.Call.TheVariants.{ReqBufs}
 use Rattle.vc_base.specs.declared.Reply.TheVariants.{Count}
-use Rattle.vc_base.specs.Buffers.{QueueState, buffer_count, refuse_if, reqbufs_refusal, reqbufs_after}
+use Rattle.vc_base.specs.Buffers.{QueueState, buffer_count, refuse_if, reqbufs_refusal, reqbufs_after, Buffer}
 use Rattle.vc_base.specs.Events.{EventState}
 use Rattle.vc_defs.specs.declared.Geometry.{Geometry}
 use Rattle.vc_defs.specs.Decoder.{DecoderState, fresh_decoder}
@@ -14,19 +14,20 @@ use Rattle.vc_model.specs.Formats.{FormatPair}
 use Rattle.vc_model.specs.Context.{Context, settle}
 use Rattle.vc_model.specs.Answer.{context_answer, reqbufs_answer}
 use Rattle.vc_geom.specs.Pairs.{pair_of}
-use Rattle.vc_pair.specs.Pairs.{PairState, pair_settled}
+use Rattle.vc_pair.specs.Pairs.{PairState, pair_settled, is_due}
 use Rattle.vc_pair.specs.Rows.{JobsAgree}
 use Rattle.vc_queue.specs.Growing.{AnswersWithMemory}
 use Rattle.vc_work.specs.References.{CodecReference}
 use Rattle.vc_resync.specs.Assembling.{AssemblyState}
 use Rattle.vc_context.specs.Contexts.{IsKept, IsStep, Gives, GivesWithMemory}
+use Rattle.vc_dec.specs.declared.Dest.{Dest}
 use Rattle.vc_dec.specs.declared.InJob.{InJob}
 use Rattle.vc_dec.specs.declared.Decoder.TheInside.{Inside}
-use Rattle.vc_dec.specs.Decoders.{CodecParts, decoder_state, job_mark, IsDecoder, IsPlaced, IsSupplied, AreServed, lent_room, serves, events_settled}
-use Rattle.vc_dec.specs.Parts.{begun, limit_of, new_assembly, new_reference, rooms_after, CanTakeOver}
+use Rattle.vc_dec.specs.Decoders.{CodecParts, decoder_state, job_mark, IsDecoder, IsPlaced, IsSupplied, AreServed, lent_room, serves, events_settled, KnowsItsJob, IsDestOf, IsLentOut}
+use Rattle.vc_dec.specs.Parts.{begun, limit_of, new_assembly, new_reference, CanTakeOver, replaced_by}
 use Rattle.vc_dec.proofs.Calling.{no_change}
 use Rattle.vc_dec.proofs.Placing.{out_rests, cap_rests}
-use Rattle.vc_dec.proofs.Serving.{CountsBoth, settle_at, same_jobs, agree_here, place, settled_so, begun_so, knows_so, steps, begins_anew, supplied_cases}
+use Rattle.vc_dec.proofs.Serving.{CountsBoth, settle_at, same_jobs, agree_here, place, settled_so, begun_so, knows_so, steps, begins_anew, supplied_cases, blank_so, due_so}
 use Rattle.vc_dec.proofs.Made.{made, no_step, unless_none, gives_found, requested_counts, requested_some, requested_lengths, serves_back, serves_one, has_room}
 
 -- a queue without a refusal does not stream
@@ -53,6 +54,28 @@ not_zero : (n : ℕ) (b : Bool) → nat_lt 0 n ≡ b → 0 < n → b ≡ true
 not_zero n true e h = refl
 not_zero n false e h = let m : n ≤ 0 = ltb-false 0 n e in absurd (omega arith)
 
+-- the references after one, where there is one, took the picture over
+abbrev rooms_after : Option CodecReference → List ℕ → List ℕ
+rooms_after None rooms = rooms
+rooms_after (Some r) rooms = r.size ∷ []
+
+abbrev present_after : Option CodecReference → Bool → Bool
+present_after None present = present
+present_after (Some r) present = true
+
+replaced_is : (r : Option CodecReference) (parts : CodecParts) → replaced_by r parts ≡ record parts { rooms = rooms_after r parts.rooms; present = present_after r parts.present }
+replaced_is None parts = refl
+replaced_is (Some r) parts = refl
+
+-- while no CAPTURE buffer is in the job, the job has no reference
+lent_at_rest : (j : Option InJob) (present : Bool) (p : PairState) → p.cap.job ≡ [] → KnowsItsJob p j → IsLentOut present j
+lent_at_rest None present p e k = tt
+lent_at_rest (Some x) present p e k = by_dest x.dest (subst (IsDestOf x.dest) e k.1)
+  where
+    by_dest : (o : Option Dest) → IsDestOf o [] → elim o as (λ _. Type 0) [ None ↦ Unit {0} | Some dest ↦ present ≡ false ]
+    by_dest None h = tt
+    by_dest (Some dest) h = absurd (cc)
+
 -- on OUTPUT
 
 sources_at : (f : FormatPair) (g : Option Geometry) (p : PairState) (events : EventState) (state : DecoderState) (count : ℕ) → reqbufs_refusal p.out ≡ None → let q : PairState = record p { out = reqbufs_after p.out count f.out.size } in reqbufs_answer (decoder_state f g p events state None) Out count true ≡ record { slot = Some (settle (decoder_state f None q events fresh_decoder None)); reply = Count (min count 32); bytes = [] }
@@ -63,7 +86,7 @@ module _ (d : Inside) (c : Context) (view : decoder_state (pair_of d.formats) d.
   abbrev before : Context
   before = decoder_state (pair_of d.formats) d.geometry d.pair d.events d.codec.state d.job
 
-  module _ (count told : ℕ) (mid new : PairState) (es : EventState) (codec : CodecParts) (assembly : Option AssemblyState) (free : reqbufs_refusal d.pair.out ≡ None) (a : AnswersWithMemory (reqbufs_refusal d.pair.out) (min count 32) (reqbufs_after d.pair.out count d.formats.out.size) (Ok told) d.pair.out mid.out) (rest : mid ≡ record d.pair { out = mid.out }) (ea : assembly ≡ new_assembly (nat_lt 0 count) d.formats.out.size) (ec : codec ≡ begun (limit_of assembly) d.codec.rooms) (en : new ≡ pair_settled mid) (ee : es ≡ events_settled mid d.events) where
+  module _ (count told : ℕ) (mid new : PairState) (es : EventState) (codec : CodecParts) (assembly : Option AssemblyState) (free : reqbufs_refusal d.pair.out ≡ None) (a : AnswersWithMemory (reqbufs_refusal d.pair.out) (min count 32) (reqbufs_after d.pair.out count d.formats.out.size) (Ok told) d.pair.out mid.out) (rest : mid ≡ record d.pair { out = mid.out }) (ea : assembly ≡ new_assembly (nat_lt 0 count) d.formats.out.size) (ec : codec ≡ begun (limit_of assembly) d.codec) (en : new ≡ pair_settled mid) (ee : es ≡ events_settled mid d.events) where
     abbrev q : PairState
     q = record d.pair { out = reqbufs_after d.pair.out count d.formats.out.size }
 
@@ -92,7 +115,7 @@ module _ (d : Inside) (c : Context) (view : decoder_state (pair_of d.formats) d.
 
     counts : CountsBoth d.pair q
     counts =
-        record { out = requested_counts d.pair.out count d.formats.out.size rests.1; cap = no_change d.pair.cap; filled = λ h. refl }
+        record { out = requested_counts d.pair.out count d.formats.out.size rests.1; cap = no_change d.pair.cap; filled = λ h. refl; due = λ h. absurd (false≢true (subst (λ (bs : List Buffer). is_due bs d.pair.mark ≡ true) rests.1 h)) }
 
     agree : JobsAgree (decoder_state (pair_of d.formats) None q d.events fresh_decoder d.job)
     agree =
@@ -141,11 +164,17 @@ module _ (d : Inside) (c : Context) (view : decoder_state (pair_of d.formats) d.
           knows = knows_so (pair_of d.formats) d.geometry d.pair d.events d.codec d.job inv q new es counts is_settled is_noted (pair_of d.formats) None codec.state sources_placed;
           supplied = supplied_if d.job d.formats.out.size new.out (limit_of assembly) supplied_new;
           served = s.lengths _ inv.served;
+          blank = blank_so (pair_of d.formats) d.geometry d.pair d.events d.codec d.job inv q new es counts is_settled is_noted;
+          lent = inv.lent;
+          due = due_so (pair_of d.formats) d.geometry d.pair d.events d.codec d.job inv q new es counts is_settled is_noted;
         })
 
   -- on CAPTURE
 
-  module _ (count told : ℕ) (mid new : PairState) (es : EventState) (codec : CodecParts) (reference : Option CodecReference) (free : reqbufs_refusal d.pair.cap ≡ None) (a : AnswersWithMemory (reqbufs_refusal d.pair.cap) (min count 32) (reqbufs_after d.pair.cap count d.formats.cap.size) (Ok told) d.pair.cap mid.cap) (rest : mid ≡ record d.pair { cap = mid.cap }) (er : reference ≡ new_reference (nat_lt 0 count) d.formats.cap.size) (ec : codec ≡ record d.codec { rooms = rooms_after reference d.codec.rooms }) (en : new ≡ pair_settled mid) (ee : es ≡ events_settled mid d.events) where
+  module _ (count told : ℕ) (mid new : PairState) (es : EventState) (codec : CodecParts) (reference : Option CodecReference) (free : reqbufs_refusal d.pair.cap ≡ None) (a : AnswersWithMemory (reqbufs_refusal d.pair.cap) (min count 32) (reqbufs_after d.pair.cap count d.formats.cap.size) (Ok told) d.pair.cap mid.cap) (rest : mid ≡ record d.pair { cap = mid.cap }) (er : reference ≡ new_reference (nat_lt 0 count) d.formats.cap.size) (eq : codec ≡ replaced_by reference d.codec) (en : new ≡ pair_settled mid) (ee : es ≡ events_settled mid d.events) where
+    ec : codec ≡ record d.codec { rooms = rooms_after reference d.codec.rooms; present = present_after reference d.codec.present }
+    ec = eq ∙ replaced_is reference d.codec
+
     abbrev to : PairState
     to = record d.pair { cap = reqbufs_after d.pair.cap count d.formats.cap.size }
 
@@ -171,7 +200,7 @@ module _ (d : Inside) (c : Context) (view : decoder_state (pair_of d.formats) d.
 
     to_counts : CountsBoth d.pair to
     to_counts =
-        record { out = no_change d.pair.out; cap = requested_counts d.pair.cap count d.formats.cap.size cap_rest; filled = λ h. h }
+        record { out = no_change d.pair.out; cap = requested_counts d.pair.cap count d.formats.cap.size cap_rest; filled = λ h. h; due = λ h. h }
 
     to_agree : JobsAgree (decoder_state (pair_of d.formats) d.geometry to d.events d.codec.state d.job)
     to_agree =
@@ -223,6 +252,9 @@ module _ (d : Inside) (c : Context) (view : decoder_state (pair_of d.formats) d.
           knows = knows_so (pair_of d.formats) d.geometry d.pair d.events d.codec d.job inv to new es to_counts to_settled to_noted (pair_of d.formats) d.geometry codec.state dests_placed;
           supplied = supplied_cases d.job d.formats.out.size d.pair.out new.out d.codec.limit (λ h. subst (λ (x : QueueState). 0 < buffer_count x) s.out h) inv.supplied;
           served = s.lengths _ served_new;
+          blank = blank_so (pair_of d.formats) d.geometry d.pair d.events d.codec d.job inv to new es to_counts to_settled to_noted;
+          lent = lent_at_rest d.job (present_after reference d.codec.present) d.pair cap_rest inv.knows;
+          due = due_so (pair_of d.formats) d.geometry d.pair d.events d.codec d.job inv to new es to_counts to_settled to_noted;
         })
 
   take_over : (b : Bool) → CanTakeOver d.codec.state.reference (new_reference b d.formats.cap.size)

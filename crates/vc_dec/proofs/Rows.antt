@@ -1,5 +1,5 @@
 -- The calls on queues that leave the payloads of the user alone: StreamOn, START and STOP.
-use Rattle.std.proofs.Common.{ℕ, ◌≡◌, Bool, true, false, not, cond, Option, Some, None, Result, [], refl, sym, ap, ◌∙◌, subst, arith, ◌<◌, ◌^◌}
+use Rattle.std.proofs.Common.{ℕ, ◌≡◌, Bool, true, false, not, cond, Option, Some, None, Result, [], refl, sym, ap, ◌∙◌, subst, arith, ◌<◌, ◌^◌, ◌≤◌, ◌+◌, lt-ltb, List, ◌∷◌, ◌++◌}
 use Rattle.vc_base.specs.declared.Side.{Side}
 use Rattle.vc_base.specs.declared.Side.TheVariants.{Out, Cap}
 use Rattle.vc_base.specs.declared.Errno.{Errno}
@@ -7,12 +7,13 @@ use Rattle.vc_base.specs.declared.Call.{Call}
 use Rattle.vc_base.specs.declared.Call.TheVariants.{StreamOn, DecCmd}
 use Rattle.vc_base.specs.declared.Reply.{Reply}
 use Rattle.vc_base.specs.declared.Reply.TheVariants.{Done}
-use Rattle.vc_base.specs.Buffers.{QueueState, streamon_refusal, streamon_after}
+use Rattle.vc_base.specs.Buffers.{Buffer, QueueState, streamon_refusal, streamon_after}
 use Rattle.vc_base.specs.Events.{EventState}
 use Rattle.vc_model.specs.Context.{Context, format_of, run}
 use Rattle.vc_model.specs.Answer.{unless, answered, context_answer, streamon_answer, start_answer, stop_answer, is_stopped_by_drain}
+use Rattle.vc_model.specs.Sound.{CountsUp, CountsUpToNext}
 use Rattle.vc_geom.specs.Pairs.{pair_of}
-use Rattle.vc_pair.specs.Pairs.{PairState, queue_at, with_queue_at, pair_settled, raises_end, both_streaming, stop_refusal, pair_marked, start_refusal, pair_started, FitsBoth}
+use Rattle.vc_pair.specs.Pairs.{PairState, queue_at, with_queue_at, pair_settled, raises_end, both_streaming, stop_refusal, pair_marked, start_refusal, pair_started, FitsBoth, is_due}
 use Rattle.vc_pair.specs.Rows.{AnswersWith, told}
 use Rattle.vc_pair.proofs.Rows.{same_commands}
 use Rattle.vc_queue.specs.Answers.{answer_of, after_of}
@@ -22,7 +23,8 @@ use Rattle.vc_dec.specs.declared.Decoder.TheInside.{Inside}
 use Rattle.vc_dec.specs.Decoders.{decoder_state, IsDecoder, IsPlaced, events_settled}
 use Rattle.vc_dec.specs.Serving.{Serves}
 use Rattle.vc_dec.proofs.Calling.{on_calls}
-use Rattle.vc_dec.proofs.Serving.{Turns, turns_out, turns_cap, turns_after, counted, jobs_stay, still, with_after, ended_at, quiet_here, agree_here, place, keeps, serve, keeps_call, serves_call}
+use Rattle.vc_dec.proofs.Placing.{latest}
+use Rattle.vc_dec.proofs.Serving.{Turns, turns_out, turns_cap, turns_after, counted, jobs_stay, still, with_after, ended_at, quiet_here, agree_here, place, keeps, serve, keeps_call, serves_call, IsSourceDue}
 
 on_turns : (p : PairState) (side : Side) → Turns p (with_queue_at p side (streamon_after (queue_at p side)))
 on_turns p Out = turns_out p (streamon_after p.out) (on_calls p.out) (λ h. h)
@@ -44,13 +46,35 @@ marked_cap p q true b e = refl
 marked_cap p q false true e = refl
 marked_cap p q false false e = e
 
-marked_turns : (p : PairState) → Turns p (pair_marked p)
-marked_turns p =
-    still p (pair_marked p) (marked_out p (record p { mark = Some p.out.next_ordinal }) (not (both_streaming p)) (is_stopped_by_drain p.phase) refl) (marked_cap p (record p { mark = Some p.out.next_ordinal }) (not (both_streaming p)) (is_stopped_by_drain p.phase) refl)
+-- every buffer that was queued is before a mark that is set now
+
+job_below : (bs : List Buffer) (rest : List Buffer) (mark : Option ℕ) (first next : ℕ) → CountsUp (bs ++ rest) first next → is_due bs mark ≡ true → is_due bs (Some next) ≡ true
+job_below [] rest mark first next c h = h
+job_below (b ∷ bs) rest mark first next c h =
+    let l = up_to (bs ++ rest) (first + 1) next c.1 in
+    let same : b.ordinal ≡ first = c.0 in
+    lt-ltb b.ordinal next (omega (arith, l, same))
+  where
+    up_to : (xs : List Buffer) (from to : ℕ) → CountsUp xs from to → from ≤ to
+    up_to [] from to u = omega (arith, u)
+    up_to (x ∷ xs) from to u = let l = up_to xs (from + 1) to u.1 in omega (arith, l)
+
+marked_due : (p : PairState) (a b : Bool) → CountsUpToNext p.out → IsSourceDue p → IsSourceDue (cond a p (cond b p (record p { mark = Some p.out.next_ordinal })))
+marked_due p true b u h = h
+marked_due p false true u h = h
+marked_due p false false u h = job_below p.out.job p.out.ready p.mark u.first p.out.next_ordinal u.counts h
+
+started_due : (p : PairState) (a : Bool) → IsSourceDue p → IsSourceDue (cond a p (record p { phase = run }))
+started_due p true h = h
+started_due p false h = h
+
+marked_turns : (p : PairState) → CountsUpToNext p.out → Turns p (pair_marked p)
+marked_turns p u =
+    still p (pair_marked p) (marked_out p (record p { mark = Some p.out.next_ordinal }) (not (both_streaming p)) (is_stopped_by_drain p.phase) refl) (marked_cap p (record p { mark = Some p.out.next_ordinal }) (not (both_streaming p)) (is_stopped_by_drain p.phase) refl) (marked_due p (not (both_streaming p)) (is_stopped_by_drain p.phase) u)
 
 started_turns : (p : PairState) → Turns p (pair_started p)
 started_turns p =
-    still p (pair_started p) (marked_out p (record p { phase = run }) (not (both_streaming p)) false refl) (marked_cap p (record p { phase = run }) (not (both_streaming p)) false refl)
+    still p (pair_started p) (marked_out p (record p { phase = run }) (not (both_streaming p)) false refl) (marked_cap p (record p { phase = run }) (not (both_streaming p)) false refl) (started_due p (not (both_streaming p)))
 
 same_fits : (p q : PairState) (hold : HoldState) → q.out ≡ p.out → q.cap ≡ p.cap → FitsBoth p hold → FitsBoth q hold
 same_fits p q hold eo ec f =
@@ -136,12 +160,12 @@ module _ (d : Inside) (c : Context) (view : decoder_state (pair_of d.formats) d.
   module _ (mid new : PairState) (es : EventState) (result : Result Unit Errno) (reply : Reply) (et : reply ≡ told_of (λ _. Done) result) (en : new ≡ pair_settled mid) (ee : es ≡ events_settled mid d.events) where
     pub stop_keeps : result ≡ answer_of (stop_refusal d.pair) tt → mid ≡ after_of (stop_refusal d.pair) d.pair (pair_marked d.pair) → IsDecoder (pair_of d.formats) d.geometry new es d.codec d.job
     stop_keeps er em =
-        command_keeps (DecCmd 1) (stop_refusal d.pair) (pair_marked d.pair) mid new es result reply stop_answers (marked_turns d.pair) er em et en ee
+        command_keeps (DecCmd 1) (stop_refusal d.pair) (pair_marked d.pair) mid new es result reply stop_answers (marked_turns d.pair (latest (at d.pair d.events) inv.placed)) er em et en ee
 
     pub stop_serves : result ≡ answer_of (stop_refusal d.pair) tt → mid ≡ after_of (stop_refusal d.pair) d.pair (pair_marked d.pair) → IsKept c → Serves (stop_answer c) reply c (at new es)
     unfolding context_answer
     stop_serves er em k =
-        subst (λ (x : Context). Serves (stop_answer x) reply x (at new es)) view (command_serves (DecCmd 1) (stop_refusal d.pair) (pair_marked d.pair) mid new es result reply stop_answers (marked_turns d.pair) er em et en ee (marked_out d.pair (record d.pair { mark = Some d.pair.out.next_ordinal }) (not (both_streaming d.pair)) (is_stopped_by_drain d.pair.phase) refl) (marked_cap d.pair (record d.pair { mark = Some d.pair.out.next_ordinal }) (not (both_streaming d.pair)) (is_stopped_by_drain d.pair.phase) refl) (subst IsKept (sym view) k))
+        subst (λ (x : Context). Serves (stop_answer x) reply x (at new es)) view (command_serves (DecCmd 1) (stop_refusal d.pair) (pair_marked d.pair) mid new es result reply stop_answers (marked_turns d.pair (latest (at d.pair d.events) inv.placed)) er em et en ee (marked_out d.pair (record d.pair { mark = Some d.pair.out.next_ordinal }) (not (both_streaming d.pair)) (is_stopped_by_drain d.pair.phase) refl) (marked_cap d.pair (record d.pair { mark = Some d.pair.out.next_ordinal }) (not (both_streaming d.pair)) (is_stopped_by_drain d.pair.phase) refl) (subst IsKept (sym view) k))
 
     pub start_keeps : result ≡ answer_of (start_refusal d.pair d.formats.cap.size) tt → mid ≡ after_of (start_refusal d.pair d.formats.cap.size) d.pair (pair_started d.pair) → IsDecoder (pair_of d.formats) d.geometry new es d.codec d.job
     start_keeps er em =

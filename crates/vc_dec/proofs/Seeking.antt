@@ -1,5 +1,5 @@
 -- StreamOff.
-use Rattle.std.proofs.Common.{◌≡◌, Bool, true, false, cond, Option, Some, None, List, [], ◌++◌, refl, sym, ap, subst}
+use Rattle.std.proofs.Common.{◌≡◌, Bool, true, false, cond, Option, Some, None, List, [], ◌++◌, refl, sym, ap, subst, ℕ}
 use Rattle.std.specs.Prelude.{is_some}
 use Rattle.std.proofs.lemmas.Bool.{false≢true}
 use Rattle.vc_base.specs.declared.Side.{Side}
@@ -11,10 +11,10 @@ use Rattle.vc_base.specs.Events.{EventState}
 use Rattle.vc_defs.specs.declared.Geometry.{Geometry}
 use Rattle.vc_defs.specs.Decoder.{DecoderState, fresh_decoder}
 use Rattle.vc_model.specs.Formats.{FormatPair}
-use Rattle.vc_model.specs.Context.{Context, settle, run}
+use Rattle.vc_model.specs.Context.{Context, settle, run, drain, change, PhaseState, owe, last, stopped}
 use Rattle.vc_model.specs.Answer.{context_answer, streamoff_answer, mark_after_restart}
 use Rattle.vc_geom.specs.Pairs.{pair_of}
-use Rattle.vc_pair.specs.Pairs.{PairState, queue_at, pair_off, pair_settled}
+use Rattle.vc_pair.specs.Pairs.{PairState, queue_at, pair_off, pair_settled, is_due}
 use Rattle.vc_pair.specs.Rows.{JobsAgree}
 use Rattle.vc_queue.specs.Holds.{HoldState}
 use Rattle.vc_queue.specs.Releasing.{AllGoToUser}
@@ -24,7 +24,7 @@ use Rattle.vc_dec.specs.declared.InJob.{InJob}
 use Rattle.vc_dec.specs.declared.Decoder.TheInside.{Inside}
 use Rattle.vc_dec.specs.Decoders.{CodecParts, decoder_state, IsDecoder, IsPlaced, IsPictureOf, IsOfStream, events_settled, sought_anew}
 use Rattle.vc_dec.proofs.Calling.{off_calls}
-use Rattle.vc_dec.proofs.Serving.{Turns, counted, turns_out, turns_cap, settle_at, same_jobs, agree_here, place, begun_so, steps, begins_anew, knows_so, gone_so, supplied_so, served_so}
+use Rattle.vc_dec.proofs.Serving.{Turns, counted, turns_out, turns_cap, settle_at, same_jobs, agree_here, place, begun_so, steps, begins_anew, knows_so, gone_so, supplied_so, served_so, none_due, blank_so, due_so}
 
 -- StreamOff on the queues
 
@@ -32,14 +32,24 @@ off_turns_cap : (p : PairState) (b : Bool) (x y : PairState) → Turns p x → T
 off_turns_cap p true x y a c = a
 off_turns_cap p false x y a c = c
 
+-- a restart of CAPTURE leaves the mark, or takes it away
+restart_due : (phase : PhaseState) (bs : List Buffer) (mark : Option ℕ) → is_due bs mark ≡ true → is_due bs (mark_after_restart phase mark) ≡ true
+restart_due run bs mark h = none_due bs mark h
+restart_due (owe drain) bs mark h = none_due bs mark h
+restart_due (owe change) bs mark h = h
+restart_due (last drain) bs mark h = none_due bs mark h
+restart_due (last change) bs mark h = h
+restart_due (stopped drain) bs mark h = none_due bs mark h
+restart_due (stopped change) bs mark h = h
+
 pub off_turns : (p : PairState) (side : Side) → Turns p (pair_off p side)
 off_turns p Out =
     let t = turns_out p (streamoff_after p.out) (off_calls p.out) (λ h. refl) in
-    record { out = t.out; cap = t.cap; filled = t.filled }
+    record { out = t.out; cap = t.cap; filled = t.filled; due = λ h. none_due (streamoff_after p.out).job p.mark (t.due h) }
 off_turns p Cap =
     let t = turns_cap p (streamoff_after p.cap) (off_calls p.cap) in
     let same : PairState → Type 0 = λ x. Turns p x in
-    off_turns_cap p p.cap.streams (record p { cap = streamoff_after p.cap; mark = mark_after_restart p.phase p.mark; phase = run }) (record p { cap = streamoff_after p.cap }) (record { out = t.out; cap = t.cap; filled = t.filled }) t
+    off_turns_cap p p.cap.streams (record p { cap = streamoff_after p.cap; mark = mark_after_restart p.phase p.mark; phase = run }) (record p { cap = streamoff_after p.cap }) (record { out = t.out; cap = t.cap; filled = t.filled; due = λ h. restart_due p.phase p.out.job p.mark h }) t
 
 none_runs : (j : Option InJob) → is_some j ≡ false → j ≡ None
 none_runs None e = refl
@@ -120,9 +130,12 @@ module _ (d : Inside) (c : Context) (view : decoder_state (pair_of d.formats) d.
         stream = stream_cases side;
         begun = b.ready;
         untouched = b.held;
+        blank = blank_so (pair_of d.formats) d.geometry d.pair d.events d.codec d.job inv mid new es (counted d.pair mid off_turns_mid) en ee;
         knows = knows_so (pair_of d.formats) d.geometry d.pair d.events d.codec d.job inv mid new es (counted d.pair mid off_turns_mid) en ee (pair_of d.formats) d.geometry codec.state off_placed;
         supplied = supplied_so (pair_of d.formats) d.geometry d.pair d.events d.codec d.job inv mid new es off_turns_mid en ee;
         served = served_so (pair_of d.formats) d.geometry d.pair d.events d.codec d.job inv mid new es off_turns_mid en ee;
+        lent = inv.lent;
+        due = due_so (pair_of d.formats) d.geometry d.pair d.events d.codec d.job inv mid new es (counted d.pair mid off_turns_mid) en ee;
       })
 
   given_cases : (s : Side) → given_back (Some before) s ≡ (queue_at d.pair s).ready ++ (queue_at d.pair s).done

@@ -1,5 +1,5 @@
 -- What a call answers and leaves, beside the queue that it is for.
-use Rattle.std.proofs.Common.{ℕ, ◌≡◌, ◌≤◌, ◌<◌, ◌+◌, Bool, true, false, ◌&&◌, Option, Some, None, Result, List, ◌++◌, map, refl, sym, ap, ◌∙◌, subst, arith}
+use Rattle.std.proofs.Common.{ℕ, ◌≡◌, ◌≤◌, ◌<◌, ◌+◌, Bool, true, false, ◌&&◌, Option, Some, None, Result, List, ◌++◌, map, refl, sym, ap, ◌∙◌, subst, arith, [], ◌∷◌}
 use Rattle.std.specs.Prelude.{is_none}
 use Rattle.vc_base.specs.declared.Side.{Side}
 use Rattle.vc_base.specs.declared.Side.TheVariants.{Out, Cap}
@@ -13,7 +13,7 @@ use Rattle.vc_defs.specs.Decoder.{DecoderState, fresh_decoder}
 use Rattle.vc_model.specs.Formats.{FormatPair}
 use Rattle.vc_model.specs.Context.{Context, settle, is_run}
 use Rattle.vc_model.specs.Answer.{Answer, unless, answered, context_answer}
-use Rattle.vc_pair.specs.Pairs.{PairState, queue_at, with_queue_at, pair_settled, raises_end, IsSettled, FitsBoth}
+use Rattle.vc_pair.specs.Pairs.{PairState, queue_at, with_queue_at, pair_settled, raises_end, IsSettled, FitsBoth, is_due}
 use Rattle.vc_pair.specs.Rows.{with_pair, ended_if, JobsAgree}
 use Rattle.vc_pair.proofs.Rows.{same_settled}
 use Rattle.vc_pair.proofs.Settling.{settled_alone, settled_quiet}
@@ -24,37 +24,50 @@ use Rattle.vc_context.specs.Contexts.{AreFilled, IsKept, IsStep, Gives, told_of}
 use Rattle.vc_context.specs.Payloads.{FitsContext}
 use Rattle.vc_work.proofs.Streams.{begins_in_step}
 use Rattle.vc_dec.specs.declared.InJob.{InJob}
-use Rattle.vc_dec.specs.Decoders.{CodecParts, decoder_state, job_mark, IsDecoder, IsPlaced, IsOfStream, KnowsItsJob, IsDestOf, IsSupplied, AreServed, lent_room, end_raised, events_settled}
+use Rattle.vc_dec.specs.Decoders.{CodecParts, decoder_state, job_mark, IsDecoder, IsPlaced, IsOfStream, KnowsItsJob, IsDestOf, IsSupplied, AreServed, lent_room, end_raised, events_settled, AreBlank, IsBeforeMark}
 use Rattle.vc_dec.specs.Serving.{Serves}
 use Rattle.vc_dec.proofs.Placing.{placed_answer, agrees, settled, sides, runs}
 use Rattle.vc_dec.proofs.Calling.{IsBegun, Counts, Calls, stays}
 use Rattle.vc_dec.proofs.Settled.{Settles, settles, stays_in_run, ended_raised}
+
+-- the OUTPUT buffer in the job is before the mark
+abbrev pub IsSourceDue : PairState → Type 0
+IsSourceDue p = is_due p.out.job p.mark ≡ true
+
+-- where there is no mark every buffer is due
+pub none_due : (bs : List Buffer) (mark : Option ℕ) → is_due bs mark ≡ true → is_due bs None ≡ true
+none_due [] mark h = h
+none_due (b ∷ rest) mark h = refl
 
 -- how a call counts in the two queues
 pub record CountsBoth (old new : PairState) : Type 0 where
   pub out : Counts old.out new.out
   pub cap : Counts old.cap new.cap
   pub filled : AreFilled old.out.ready → AreFilled new.out.ready
+  pub due : IsSourceDue old → IsSourceDue new
 
 -- what a call makes of the two queues, where no buffer comes or goes
 pub record Turns (old new : PairState) : Type 0 where
   pub out : Calls old.out new.out
   pub cap : Calls old.cap new.cap
   pub filled : AreFilled old.out.ready → AreFilled new.out.ready
+  pub due : IsSourceDue old → IsSourceDue new
 
 pub counted : (p q : PairState) → Turns p q → CountsBoth p q
-counted p q t = record { out = t.out.counts; cap = t.cap.counts; filled = t.filled }
+counted p q t =
+    record { out = t.out.counts; cap = t.cap.counts; filled = t.filled; due = t.due }
 
-pub still : (p q : PairState) → q.out ≡ p.out → q.cap ≡ p.cap → Turns p q
-still p q eo ec =
+pub still : (p q : PairState) → q.out ≡ p.out → q.cap ≡ p.cap → (IsSourceDue p → IsSourceDue q) → Turns p q
+still p q eo ec d =
     record {
       out = subst (λ (r : QueueState). Calls p.out r) (sym eo) (stays p.out);
       cap = subst (λ (r : QueueState). Calls p.cap r) (sym ec) (stays p.cap);
       filled = λ h. subst (λ (r : QueueState). AreFilled r.ready) (sym eo) h;
+      due = d;
     }
 
 pub turns_after : (o : Option Errno) (p q : PairState) → (o ≡ None → Turns p q) → Turns p (after_of o p q)
-turns_after (Some e) p q t = still p p refl refl
+turns_after (Some e) p q t = still p p refl refl (λ h. h)
 turns_after None p q t = t refl
 
 -- the buffers in the jobs stay
@@ -66,10 +79,11 @@ pub jobs_stay : (p q : PairState) → Turns p q → JobsStay p q
 jobs_stay p q t = record { out = t.out.counts.job; cap = t.cap.counts.job }
 
 pub turns_out : (p : PairState) (r : QueueState) → Calls p.out r → (AreFilled p.out.ready → AreFilled r.ready) → Turns p (record p { out = r })
-turns_out p r c f = record { out = c; cap = stays p.cap; filled = f }
+turns_out p r c f =
+    record { out = c; cap = stays p.cap; filled = f; due = λ h. subst (λ (bs : List Buffer). is_due bs p.mark ≡ true) (sym c.counts.job) h }
 
 pub turns_cap : (p : PairState) (r : QueueState) → Calls p.cap r → Turns p (record p { cap = r })
-turns_cap p r c = record { out = stays p.out; cap = c; filled = λ h. h }
+turns_cap p r c = record { out = stays p.out; cap = c; filled = λ h. h; due = λ h. h }
 
 -- a queue that a refusal leaves
 pub with_after : (o : Option Errno) (p : PairState) (side : Side) (r : QueueState) → with_queue_at p side (after_of o (queue_at p side) r) ≡ after_of o p (with_queue_at p side r)
@@ -81,6 +95,10 @@ knows_cases : (j : Option InJob) (p new : PairState) → new.out.job ≡ p.out.j
 knows_cases None p new eo ec k = tt
 knows_cases (Some x) p new eo ec k =
     (ap (λ (bs : List Buffer). map (λ b. b.index) bs) eo ∙ k.0, subst (λ (bs : List Buffer). IsDestOf x.dest bs) (sym (ec refl)) k.1)
+
+pub before_cases : (j : Option InJob) (p new : PairState) → (IsSourceDue p → IsSourceDue new) → IsBeforeMark p j → IsBeforeMark new j
+before_cases None p new f k = tt
+before_cases (Some x) p new f k = f k
 
 pub supplied_cases : (j : Option InJob) (size : ℕ) (out new : QueueState) (limit : Option ℕ) → (0 < buffer_count new → 0 < buffer_count out) → IsSupplied size out limit j → IsSupplied size new limit j
 supplied_cases None size out new limit f s = λ h. s (f h)
@@ -146,6 +164,13 @@ module _ (formats : FormatPair) (geometry : Option Geometry) (p : PairState) (ev
     pub begun_so : IsBegun new.out
     begun_so =
         subst IsBegun (sym settled_so.out) (t.out.begun (record { ready = inv.begun; held = inv.untouched }))
+
+    pub blank_so : AreBlank new.cap
+    blank_so = settled_so.blank (t.cap.blank (sides before inv.placed).cap_side inv.blank)
+
+    pub due_so : IsBeforeMark new job
+    due_so =
+        before_cases job p new (λ h. subst (λ (m : Option ℕ). is_due new.out.job m ≡ true) (sym settled_so.mark) (subst (λ (r : QueueState). is_due r.job q.mark ≡ true) (sym settled_so.out) (t.due h))) inv.due
 
     -- whatever becomes of formats, geometry and codec
     module _ (f : FormatPair) (g : Option Geometry) (state : DecoderState) (placed : IsPlaced (decoder_state f g new es state job)) where
@@ -222,9 +247,12 @@ module _ (formats : FormatPair) (geometry : Option Geometry) (p : PairState) (ev
           stream = inv.stream;
           begun = (begun_so q new es (counted p q t) en ee).ready;
           untouched = (begun_so q new es (counted p q t) en ee).held;
+          blank = blank_so q new es (counted p q t) en ee;
           knows = knows_so q new es (counted p q t) en ee formats geometry parts.state placed;
           supplied = supplied_so;
           served = served_so;
+          lent = inv.lent;
+          due = due_so q new es (counted p q t) en ee;
         }
 
   -- a call on the queues that is refused, or does something to them and settles

@@ -1,5 +1,5 @@
 -- What settling makes of the queues.
-use Rattle.std.proofs.Common.{ℕ, ◌≡◌, ◌≤◌, ◌+◌, nat_le, Bool, true, false, cond, ◌&&◌, List, [], ◌∷◌, ◌++◌, refl, sym, ap, ◌∙◌, subst, arith, le-leb}
+use Rattle.std.proofs.Common.{ℕ, ◌≡◌, ◌≤◌, ◌+◌, nat_le, Bool, true, false, cond, ◌&&◌, List, [], ◌∷◌, ◌++◌, refl, sym, ap, ◌∙◌, subst, arith, le-leb, ◌==◌}
 use Rattle.std.specs.List.{list_all}
 use Rattle.std.proofs.lemmas.Bool.{and_parts, and_from, false≢true}
 use Rattle.std.proofs.lemmas.List.Folds.{list_all-append}
@@ -8,7 +8,7 @@ use Rattle.vc_base.specs.Events.{EventState, raise_after, is_subscribed, eos_eve
 use Rattle.vc_model.specs.Context.{Cause, drain, PhaseState, run, owe, last, stopped, is_run}
 use Rattle.vc_pair.specs.Pairs.{PairState, owes_last, last_given, given, pair_settled}
 use Rattle.vc_context.specs.Contexts.{AreFilled}
-use Rattle.vc_dec.specs.Decoders.{AllLengths, end_raised}
+use Rattle.vc_dec.specs.Decoders.{AllLengths, end_raised, AreUnused, AreBlank}
 
 -- One CAPTURE buffer at most goes to done.
 pub record Settles (old new : PairState) : Type 0 where
@@ -17,10 +17,12 @@ pub record Settles (old new : PairState) : Type 0 where
   pub retired : new.cap.next_seq ≤ old.cap.next_seq + 1
   pub done : AreFilled old.cap.done → AreFilled new.cap.done
   pub lengths : (p : ℕ → Bool) → AllLengths p old.cap → AllLengths p new.cap
+  pub blank : AreBlank old.cap → AreBlank new.cap
+  pub mark : new.mark ≡ old.mark
 
 quiet : (p : PairState) (phase : PhaseState) → Settles p (record p { phase = phase })
 quiet p phase =
-    record { out = refl; queued = refl; retired = omega arith; done = λ h. h; lengths = λ f a. a }
+    record { out = refl; queued = refl; retired = omega arith; done = λ h. h; lengths = λ f a. a; blank = λ a. a; mark = refl }
 
 one_more : (p : Buffer → Bool) (xs : List Buffer) (b : Buffer) → list_all p xs ≡ true → p b ≡ true → list_all p (xs ++ b ∷ []) ≡ true
 one_more p xs b x y =
@@ -44,6 +46,8 @@ given_last p phase cause (b ∷ rest) e =
         job = refl;
         done = one_more (λ y. f y.size) p.cap.done x a.done r.0;
       };
+      blank = λ a. record { held = a.held; ready = (and_parts (b.used == 0) (list_all (λ y. y.used == 0) rest) (subst AreUnused front a.ready)).1; job = refl };
+      mark = refl;
     } in
     subst (λ (l : List Buffer). Settles p (record p { cap = retire_after (lend_front p.cap l) 0 [] last_flag zero_stamp; phase = last cause })) (sym front) out
 

@@ -1,9 +1,6 @@
-use Rattle.std.proofs.Common.{[], ◌∷◌, ◌∙◌, sym, ap, subst, ℕ, List, map, Option}
-use Rattle.std.specs.List.Sorted.{IsPermutation}
-use Rattle.vc_defs.specs.Decoder.{ReferenceState}
+use Rattle.std.proofs.Common.{[], ◌∷◌, ◌∙◌, ap, subst, ℕ, Option}
 use Rattle.vc_work.specs.References.{CodecReference, HasRoomFor}
 use Rattle.vc_work.specs.Streams.{picture_of}
-use Rattle.vc_dec.specs.Parts.{rooms_of}
 use Rattle.vc_dec.proofs.Changing.{place_at, some_place, placed_size, placed_room, exchanged_rooms, removed_rooms}
 use Rattle.vc_dec.proofs.codec.lending.bring_forward.Goals as goal
 
