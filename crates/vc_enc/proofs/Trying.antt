@@ -35,6 +35,8 @@ encodes : (run : RunSort) (s : Sort) → run ≡ encode → IsSort run s → s �
 encodes copy s e h = cc
 encodes encode sort.Copy e h = absurd h
 encodes encode sort.Encode e h = refl
+encodes encode sort.Probe e h = absurd h
+encodes encode sort.Decode e h = absurd h
 encodes decode s e h = cc
 encodes probe s e h = cc
 
