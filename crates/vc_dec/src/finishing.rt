@@ -1,7 +1,8 @@
 //! The end of a job.
 
-ghost use Rattle.std.specs.Prelude.{◌≡◌, ◌≢◌, ◌<◌, ◌^◌, [], take, Some, if◌then◌else◌};
+ghost use Rattle.std.specs.Prelude.{◌≡◌, ◌≢◌, ◌<◌, ◌^◌, [], take, None, Some, true, if◌then◌else◌};
 ghost use Rattle.std.specs.Option.{option_map};
+ghost use Rattle.vc_base.specs.Buffers.{error_flag};
 ghost use Rattle.vc_base.specs.Events.{raise_after, source_change_event};
 ghost use Rattle.vc_defs.specs.Decoder.{fresh_decoder};
 ghost use Rattle.vc_model.specs.Context.{run};
@@ -75,6 +76,30 @@ fn type_flag(key: bool) -> u32
     if key { KEYFRAME } else { PFRAME }
 }
 
+/// What a destination has that comes back without its picture.
+fn no_picture(stamp: Stamp) -> Shown
+    ensures { result ≡ record { used = 0; flags = error_flag; stamp = stamp } }
+{
+    Shown {
+        used: 0,
+        flags: ERROR,
+        stamp,
+    }
+}
+
+/// What is left of the buffers where the engine gave up: both come back with ERROR and the source's stamp.
+fn given_up(queued: Stamp) -> RunEnd
+    ensures { result ≡ record { used_up = true; source_flags = error_flag; shown = Some (record { used = 0; flags = error_flag; stamp = queued }); changed = None; fault = true } }
+{
+    RunEnd {
+        used_up: true,
+        source_flags: ERROR,
+        shown: Some(no_picture(queued)),
+        changed: None,
+        fault: true,
+    }
+}
+
 /// What is left of the buffers after a run, whose source is used up or not and was queued with the stamp.
 fn end_of(outcome: &Result<Outcome, EngineFault>, used_up: bool, queued: Stamp) -> RunEnd
     ensures { result ≡ end_of outcome.now used_up queued }
@@ -96,11 +121,7 @@ fn end_of(outcome: &Result<Outcome, EngineFault>, used_up: bool, queued: Stamp) 
             ..done
         },
         Ok(Outcome::Damaged { stamp }) => RunEnd {
-            shown: Some(Shown {
-                used: 0,
-                flags: ERROR,
-                stamp,
-            }),
+            shown: Some(no_picture(stamp)),
             ..done
         },
         Ok(Outcome::Changed { geometry }) => RunEnd {
@@ -112,17 +133,7 @@ fn end_of(outcome: &Result<Outcome, EngineFault>, used_up: bool, queued: Stamp) 
             used_up: true,
             ..done
         },
-        _ => RunEnd {
-            used_up: true,
-            source_flags: ERROR,
-            shown: Some(Shown {
-                used: 0,
-                flags: ERROR,
-                stamp: queued,
-            }),
-            changed: None,
-            fault: true,
-        },
+        _ => given_up(queued),
     }
 }
 
@@ -162,7 +173,7 @@ fn put_dest(pair: &mut Pair, dest: Option<Lent>)
     }
 }
 
-/// Stops CAPTURE, which streams, at a change, and tells the change by an event. No event tells the LAST buffer that
+/// Stops CAPTURE at a change, where it streams, and tells the change by an event. No event tells the LAST buffer that
 /// settling may give then.
 fn stop_by_change(pair: &mut Pair, events: &mut Events)
     requires idle { IsIdle pair.old }
