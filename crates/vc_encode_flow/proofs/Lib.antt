@@ -7,4 +7,5 @@ pub mod Filling
 pub mod Frames
 pub mod Pictures
 pub mod Setting
+pub mod Stopping
 pub mod Taken

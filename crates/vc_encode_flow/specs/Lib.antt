@@ -1,3 +1,3 @@
-pub mod Frames
 pub mod Flows
+pub mod Frames
 pub mod Steps

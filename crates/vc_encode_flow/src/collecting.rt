@@ -53,7 +53,10 @@ fn take_frame<R: Wait, P: PayloadPort>(rt: &R, port: &mut P) -> Result<Frame, St
     };
     match wait_on(rt, port, &call) {
         Reply::Taken {
-            index, used, flags, ..
+            index,
+            used,
+            flags,
+            ..
         } => {
             if is_failed(flags) {
                 Err(Stop::EngineFault)
@@ -81,4 +84,28 @@ fn write_frame<P: PayloadPort, K: Sink>(port: &P, sink: &mut K, frame: Frame) ->
         Ok(()) => Ok(()),
         Err(_) => Err(Stop::WriteFault),
     }
+}
+
+/// Waits for a frame, writes it, and queues its buffer again.
+pub(crate) fn collect<R: Wait, P: PayloadPort, K: Sink>(
+    rt: &R,
+    port: &mut P,
+    sink: &mut K,
+) -> Result<(), Stop>
+    requires ready { P.ready port.old }
+    ensures ready { P.ready port.new }
+    ensures follows { P.follows port.old port.new }
+    ensures taken { (start : List SoloEvent) (f : FlowSoFar) (first : Option (List ℕ)) → IsAt start f first (K.written sink.old) (P.events port.old) → OnOk result (HasTaken start f 1 first (K.written sink.new) (P.events port.new)) }
+    ensures stopped { (start : List SoloEvent) (f : FlowSoFar) (first : Option (List ℕ)) → IsAt start f first (K.written sink.old) (P.events port.old) → OnErr result (StopsEarly start f first (K.written sink.new) (P.events port.new)) }
+    ensures engine { (start : List SoloEvent) (f : FlowSoFar) → IsFlow start f (P.events port.old) → IsErrOf result Stop.EngineFault → fault_finishes start < fault_finishes (P.events port.new) }
+    ensures later { K.faults sink.old ≤ K.faults sink.new }
+    ensures write { IsErrOf result Stop.WriteFault → Rose (K.faults sink.old) (K.faults sink.new) }
+    ensures stops { IfErr result (λ stop. (stop ≢ Stop.ReadFault) × (stop ≢ Stop.TooLong)) }
+{
+    let frame = match take_frame(rt, port) {
+        Ok(frame) => frame,
+        Err(stop) => return Err(stop),
+    };
+    write_frame(port, sink, frame)?;
+    queue_capture(port, frame.index)
 }

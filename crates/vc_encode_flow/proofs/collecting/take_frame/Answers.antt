@@ -6,8 +6,8 @@ use Rattle.vc_encode_flow.proofs.collecting.take_frame.Goals as goal
 
 pub returns-then-is_failed-clause-engine : goal.returns-then-is_failed-clause-engine
 returns-then-is_failed-clause-engine g c = λ start f w e.
-  let failed : has_error c.in-Taken.flags ≡ true = cc in
-  fault_taken start f _ _ _ _ _ _ _ _ _ _ failed c.in-Taken.ensures.does w
+    let failed : has_error c.in-Taken.flags ≡ true = cc in
+    fault_taken start f _ _ _ _ _ _ _ _ _ _ failed c.in-Taken.ensures.does w
 
 pub returns-then-is_failed-clause-hands : goal.returns-then-is_failed-clause-hands
 returns-then-is_failed-clause-hands g c = λ start bytes h. hands_first start bytes _ _ _ _ _ _ c.wait_on.ensures.does h
@@ -17,8 +17,8 @@ returns-else-is_failed-clause-there g c = there _ _ _ _ _ _ _ _ _ _ c.in-Taken.e
 
 pub returns-else-is_failed-clause-flow : goal.returns-else-is_failed-clause-flow
 returns-else-is_failed-clause-flow g c = λ start f w.
-  let fine : has_error c.in-Taken.flags ≡ false = cc in
-  is_taken start f _ _ _ _ _ _ _ _ _ _ fine c.in-Taken.ensures.does c.wait_on.ensures.fit w
+    let fine : has_error c.in-Taken.flags ≡ false = cc in
+    is_taken start f _ _ _ _ _ _ _ _ _ _ fine c.in-Taken.ensures.does c.wait_on.ensures.fit w
 
 pub returns-else-is_failed-clause-hands : goal.returns-else-is_failed-clause-hands
 returns-else-is_failed-clause-hands g c = λ start bytes h. hands_first start bytes _ _ _ _ _ _ c.wait_on.ensures.does h
