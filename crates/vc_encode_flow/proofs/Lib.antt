@@ -9,3 +9,4 @@ pub mod Pictures
 pub mod Setting
 pub mod Stopping
 pub mod Taken
+pub mod Whole
