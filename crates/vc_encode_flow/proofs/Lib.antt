@@ -1,6 +1,7 @@
 pub mod Asking
 pub mod Blank
 pub mod Calls
+pub mod Closed
 pub mod Encoding
 pub mod Events
 pub mod Filling
