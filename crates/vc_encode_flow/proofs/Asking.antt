@@ -1,5 +1,5 @@
 -- What one call on a port does to a flow.
-use Rattle.std.proofs.Common.{ℕ, ◌≡◌, ◌≢◌, List, [], ◌++◌, None, Some, refl, sym, ap, ◌∙◌, subst, append_assoc}
+use Rattle.std.proofs.Common.{ℕ, ◌≡◌, List, [], ◌++◌, None, Some, refl, ap, ◌∙◌, subst, append_assoc}
 use Rattle.vc_base.specs.declared.Stamp.{Stamp}
 use Rattle.vc_base.specs.declared.Side.{Side}
 use Rattle.vc_base.specs.declared.Side.TheVariants.{Out, Cap}
@@ -8,7 +8,7 @@ use Rattle.vc_base.specs.declared.Format.{Format}
 use Rattle.vc_base.specs.declared.Call.{Call}
 use Rattle.vc_base.specs.declared.Call.TheVariants.{Open, SetFmt, ReqBufs, QBuf, StreamOn, SetCtrl}
 use Rattle.vc_base.specs.declared.Reply.{Reply}
-use Rattle.vc_base.specs.declared.Reply.TheVariants.{Done, Fmt, Count, Blocked}
+use Rattle.vc_base.specs.declared.Reply.TheVariants.{Done, Fmt, Count}
 use Rattle.vc_defs.specs.Encoder.{RunRates}
 use Rattle.vc_model.specs.Answer.{with_control}
 use Rattle.vc_model.specs.Handed.{handed_by_call}

@@ -1,40 +1,34 @@
 -- What the calls that open a flow do to it.
-use Rattle.std.proofs.Common.{ℕ, suc, zero, ◌≡◌, ◌≤◌, ◌<◌, ◌+◌, ◌==◌, nat_le, Bool, true, false, not, cond, ◌&&◌, ◌||◌, Option, Some, None, List, [], ◌∷◌, ◌++◌, map, length, refl, sym, ap, ◌∙◌, subst, arith, append_assoc, inl, inr}
+use Rattle.std.proofs.Common.{ℕ, ◌≡◌, ◌≤◌, Bool, true, false, not, ◌||◌, Option, Some, None, List, [], ◌∷◌, ◌++◌, length, refl, sym, ap, ◌∙◌, subst, arith, append_assoc, inl, inr}
 use Rattle.std.specs.List.{list_all}
 use Rattle.std.proofs.lemmas.Bool.{false≢true}
 use Rattle.std.proofs.lemmas.List.{append-nil}
-use Rattle.vc_base.specs.declared.Stamp.{Stamp}
-use Rattle.vc_base.specs.declared.Side.{Side}
 use Rattle.vc_base.specs.declared.Side.TheVariants.{Out, Cap}
 use Rattle.vc_base.specs.declared.Kind.{Kind}
-use Rattle.vc_base.specs.declared.Kind.TheVariants.{Copy, Enc, Dec}
+use Rattle.vc_base.specs.declared.Kind.TheVariants.{Enc}
 use Rattle.vc_base.specs.declared.Format.{Format}
 use Rattle.vc_base.specs.declared.Call.{Call}
 use Rattle.vc_base.specs.declared.Call.TheVariants.{Open, SetFmt, ReqBufs, SetCtrl}
 use Rattle.vc_base.specs.declared.Reply.{Reply}
-use Rattle.vc_base.specs.declared.Reply.TheVariants.{Done, Fmt, Count, Blocked}
+use Rattle.vc_base.specs.declared.Reply.TheVariants.{Done, Fmt, Count}
 use Rattle.vc_base.specs.Buffers.{Buffer, QueueState, reqbufs_after}
-use Rattle.vc_defs.specs.Encoder.{RunRates, EncoderState, fresh_encoder}
-use Rattle.vc_defs.specs.Laws.{AreRates}
+use Rattle.vc_defs.specs.Encoder.{RunRates, fresh_encoder}
 use Rattle.vc_defs.specs.declared.Geometry.{Geometry}
-use Rattle.vc_model.specs.Formats.{FormatPair, formats_for}
+use Rattle.vc_model.specs.Formats.{formats_for}
 use Rattle.vc_model.specs.Coder.{CodecState, encoder, reset, the_coder}
 use Rattle.vc_model.specs.Context.{Context, Slot, Running, run, fresh_context, is_dec, is_enc, settle}
-use Rattle.vc_model.specs.Answer.{Answer, answer, answered, closed_answer, context_answer, with_control, control_answer}
+use Rattle.vc_model.specs.Answer.{answer, closed_answer, context_answer, with_control, control_answer}
 use Rattle.vc_model.specs.Places.{has_error}
 use Rattle.vc_model.specs.Handed.{handed_by_call}
 use Rattle.vc_model.specs.Solo.{SoloEvent, Called, Claims, Finishes, Answered, solo_step, solo_slot}
 use Rattle.vc_model.specs.Sound.{HasItsBuffers, IsOrdered}
-use Rattle.vc_model.proofs.Tests.{and_left, and_right}
-use Rattle.vc_laws.specs.Segments.{call_resets}
-use Rattle.vc_laws.proofs.Effects.{CodecAfterFormat, CodecAfterBuffers, IsPlain, Settles, settle_is, Effect, effect_of, stays, closes, has_events, has_rates, has_out_format, has_cap_format, has_out_buffers, has_cap_buffers, adds_out, adds_cap, queues_out, queues_cap, takes_out, takes_cap, takes_last, streams_out, streams_cap, stops_out, stops_cap, rests_cap, sets_mark, starts}
+use Rattle.vc_laws.proofs.Effects.{CodecAfterFormat, CodecAfterBuffers, settle_is, Effect, effect_of, stays, has_events, has_out_format, has_out_buffers, has_cap_buffers}
 use Rattle.vc_queue.specs.Holds.{HoldState}
-use Rattle.vc_context.specs.Payloads.{handed_over}
-use Rattle.vc_port.specs.Payloads.{slot_after, told_at, bytes_out, good_finishes, is_of_job, AreOfJobs, IsCallOn}
+use Rattle.vc_port.specs.Payloads.{slot_after, good_finishes, AreOfJobs, IsCallOn}
 use Rattle.vc_port.proofs.Handing.{slot-append, calls_hand_out}
-use Rattle.vc_encode_flow.specs.Frames.{frames_from, state_from, joined}
-use Rattle.vc_encode_flow.specs.Flows.{FlowSoFar, flow_at_open, with_format, with_rates, HasBegun, IsKept, fault_finishes, frames_for, state_for, payloads, AreGood, RunsAt, IsEncoding, HasFrames, HasFault, IsUnderWay, IsFlow}
-use Rattle.vc_encode_flow.proofs.Encoding.{settled_same, count_of}
+use Rattle.vc_encode_flow.specs.Frames.{joined}
+use Rattle.vc_encode_flow.specs.Flows.{FlowSoFar, flow_at_open, with_format, with_rates, HasBegun, IsKept, fault_finishes, frames_for, state_for, payloads, RunsAt, IsEncoding, IsUnderWay, IsFlow}
+use Rattle.vc_encode_flow.proofs.Encoding.{settled_same}
 use Rattle.vc_encode_flow.proofs.Events.{IsAsked, call_flow, finishes_more}
 use Rattle.vc_encode_flow.proofs.Calls.{ordered}
 

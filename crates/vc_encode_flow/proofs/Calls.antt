@@ -1,41 +1,28 @@
 -- What each call of a flow does to it.
-use Rattle.std.proofs.Common.{ℕ, suc, ◌≡◌, ◌≢◌, ◌≤◌, ◌<◌, ◌+◌, nat_le, Bool, true, false, not, cond, ◌&&◌, Option, Some, None, List, [], ◌∷◌, ◌++◌, map, length, refl, sym, ap, ◌∙◌, subst, arith, append_assoc, inl, inr}
-use Rattle.std.specs.List.{list_all, flat_map}
+use Rattle.std.proofs.Common.{ℕ, ◌≡◌, Bool, true, false, not, Some, None, List, [], ◌∷◌, ◌++◌, refl, sym, ap, ◌∙◌, subst, inl, inr}
+use Rattle.std.specs.List.{list_all}
 use Rattle.std.proofs.lemmas.Bool.{false≢true}
-use Rattle.std.proofs.lemmas.List.{map-append, append-nil}
-use Rattle.std.proofs.lemmas.Grind.{flat_map-append}
-use Rattle.vc_base.specs.declared.Stamp.{Stamp}
-use Rattle.vc_base.specs.declared.Side.{Side}
+use Rattle.std.proofs.lemmas.List.{append-nil}
 use Rattle.vc_base.specs.declared.Side.TheVariants.{Out, Cap}
-use Rattle.vc_base.specs.declared.Kind.{Kind}
-use Rattle.vc_base.specs.declared.Kind.TheVariants.{Copy, Enc, Dec}
-use Rattle.vc_base.specs.declared.Format.{Format}
-use Rattle.vc_base.specs.declared.Errno.{Errno}
-use Rattle.vc_base.specs.declared.Errno.TheVariants.{NoEnt, Again, NoMem, Busy, Inval, NoTty, Pipe}
 use Rattle.vc_base.specs.declared.Call.{Call}
-use Rattle.vc_base.specs.declared.Call.TheVariants.{Open, Close, EnumFmt, GetFmt, TryFmt, SetFmt, ReqBufs, CreateBufs, QueryBuf, QBuf, DqBuf, StreamOn, StreamOff, Subscribe, Unsubscribe, DqEvent, DecCmd, EncCmd, GetCtrl, SetCtrl, Poll}
+use Rattle.vc_base.specs.declared.Call.TheVariants.{QBuf, DqBuf, StreamOn, DecCmd, EncCmd}
 use Rattle.vc_base.specs.declared.Reply.{Reply}
-use Rattle.vc_base.specs.declared.Reply.TheVariants.{Done, Fmt, Count, Taken, Refused, Blocked}
-use Rattle.vc_base.specs.Buffers.{Buffer, QueueState, is_empty, with_index, queued_buffer, queue_held, qbuf_refusal, qbuf_after, refuse_if, dqbuf_refusal, dqbuf_after, taken, take_front}
-use Rattle.vc_defs.specs.Encoder.{RunRates, EncoderState, fresh_encoder}
-use Rattle.vc_model.specs.Formats.{FormatPair, formats_for}
-use Rattle.vc_model.specs.Coder.{CodecState, encoder, reset, the_coder}
-use Rattle.vc_model.specs.Context.{Context, Slot, Running, PhaseState, run, is_run, settle, with_queue, sizeimage}
-use Rattle.vc_model.specs.Answer.{Answer, answer, answered, unless, unless_or_block, context_answer, set_answer, set_refusal, qbuf_answer, is_part_of_picture, dqbuf_answer, taken_answer, after_taking, stop_at_last, is_ended, with_control, control_answer}
+use Rattle.vc_base.specs.Buffers.{Buffer, queue_held, take_front}
+use Rattle.vc_model.specs.Coder.{the_coder}
+use Rattle.vc_model.specs.Context.{Context, Slot, run}
+use Rattle.vc_model.specs.Answer.{answer}
 use Rattle.vc_model.specs.Places.{has_error}
 use Rattle.vc_model.specs.Handed.{handed_by_call}
-use Rattle.vc_model.specs.Solo.{SoloEvent, Called}
-use Rattle.vc_model.specs.Sound.{HasItsBuffers, IsOrdered, IsOrderedSlot}
+use Rattle.vc_model.specs.Solo.{SoloEvent}
+use Rattle.vc_model.specs.Sound.{IsOrdered, IsOrderedSlot}
 use Rattle.vc_model.proofs.Ending.{always_ordered}
-use Rattle.vc_laws.specs.Segments.{call_resets}
 use Rattle.vc_laws.specs.Drains.{is_stop_call}
-use Rattle.vc_laws.proofs.Effects.{CodecAfterFormat, CodecAfterBuffers, is_command, IsPlain, Settles, settle_is, Effect, effect_of, held_there, stays, closes, has_events, has_rates, has_out_format, has_cap_format, has_out_buffers, has_cap_buffers, adds_out, adds_cap, queues_out, queues_cap, takes_out, takes_cap, takes_last, streams_out, streams_cap, stops_out, stops_cap, rests_cap, sets_mark, starts}
-use Rattle.vc_port.specs.Payloads.{slot_after, bytes_out, good_finishes}
-use Rattle.vc_encode_flow.specs.Frames.{frames_from, state_from, joined}
-use Rattle.vc_encode_flow.specs.Flows.{FlowSoFar, with_picture, with_frame, with_format, with_rates, HasBegun, IsKept, fault_finishes, frames_for, state_for, payloads, AreGood, RunsAt, IsEncoding, HasFrames, HasFault, IsUnderWay, IsFlow}
-use Rattle.vc_encode_flow.proofs.Encoding.{settled_same, frames_later}
+use Rattle.vc_laws.proofs.Effects.{is_command, Settles, Effect, effect_of, stays, closes, has_events, has_rates, has_out_format, has_cap_format, has_out_buffers, has_cap_buffers, adds_out, adds_cap, queues_out, queues_cap, takes_out, takes_cap, takes_last, streams_out, streams_cap, stops_out, stops_cap, rests_cap, sets_mark, starts}
+use Rattle.vc_port.specs.Payloads.{good_finishes}
+use Rattle.vc_encode_flow.specs.Frames.{joined}
+use Rattle.vc_encode_flow.specs.Flows.{FlowSoFar, fault_finishes, payloads, RunsAt, IsEncoding, IsUnderWay, IsFlow}
+use Rattle.vc_encode_flow.proofs.Encoding.{settled_same}
 use Rattle.vc_encode_flow.proofs.Events.{IsAsked, call_flow}
-use Rattle.vc_encode_flow.proofs.Frames.{frames_append}
 
 -- the context that a call came to is in order
 pub ordered : (start : List SoloEvent) (f : FlowSoFar) (events : List SoloEvent) → (w : IsFlow start f events) → IsOrdered w.context

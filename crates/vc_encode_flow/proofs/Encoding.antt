@@ -1,29 +1,28 @@
 -- Claims and finishes keep a flow.
-use Rattle.std.proofs.Common.{ℕ, ◌≡◌, ◌≤◌, ◌<◌, ◌+◌, ◌==◌, Bool, true, false, not, cond, ◌&&◌, is_none, Option, Some, None, List, [], ◌∷◌, ◌++◌, map, length, refl, sym, ap, ◌∙◌, subst, arith, length-append, append_assoc, ◌⊎◌, inl, inr, ⊎_elim}
+use Rattle.std.proofs.Common.{ℕ, ◌≡◌, ◌≤◌, ◌+◌, Bool, true, false, not, cond, ◌&&◌, is_none, Option, Some, None, List, [], ◌∷◌, ◌++◌, length, refl, sym, ap, ◌∙◌, subst, arith, length-append, append_assoc, inl, inr, ⊎_elim}
 use Rattle.std.specs.List.{list_all}
 use Rattle.std.proofs.lemmas.Bool.{false≢true}
 use Rattle.std.proofs.lemmas.List.{map-append, append-nil}
 use Rattle.std.proofs.lemmas.List.Folds.{list_all-append}
 use Rattle.vc_base.specs.declared.Stamp.{Stamp}
 use Rattle.vc_base.specs.declared.Side.{Side}
-use Rattle.vc_base.specs.declared.Side.TheVariants.{Out, Cap}
+use Rattle.vc_base.specs.declared.Side.TheVariants.{Cap}
 use Rattle.vc_base.specs.declared.Kind.{Kind}
 use Rattle.vc_base.specs.declared.Kind.TheVariants.{Copy, Enc, Dec}
 use Rattle.vc_base.specs.Buffers.{Buffer, QueueState, lend_front, known_bytes, error_flag}
-use Rattle.vc_defs.specs.Encoder.{RunRates, EncoderState, fresh_encoder, EncodedFrame, encode}
+use Rattle.vc_defs.specs.Encoder.{EncoderState, fresh_encoder, EncodedFrame, encode}
 use Rattle.vc_model.specs.Coder.{CodecState, no_codec, encoder, decoder, reset, the_coder}
-use Rattle.vc_model.specs.Context.{Context, Slot, Running, RunSort, drain, PhaseState, run, owe, is_run, is_enc, is_drained}
+use Rattle.vc_model.specs.Context.{Context, Slot, Running, RunSort, drain, run, owe, is_run, is_enc, is_drained}
 use Rattle.vc_model.specs.Runs.{sort_of, running_of, source_of, JobData, job_data, RunResult, encoded, run_result, run_of, encode_run, type_flag}
 use Rattle.vc_model.specs.Handed.{is_finish_by}
 use Rattle.vc_model.specs.Places.{has_error}
-use Rattle.vc_model.specs.Solo.{SoloEvent, Called, Claims, Finishes, SoloReply, Answered, Claimed, Finished, Nothing, solo_step}
+use Rattle.vc_model.specs.Solo.{SoloEvent, Claims, Finishes, SoloReply, Finished, Nothing}
 use Rattle.vc_model.specs.Sound.{IsOrdered, HasCodec, dest_count, drain_not_noted}
 use Rattle.vc_model.proofs.Tests.{and_right}
 use Rattle.vc_laws.proofs.Effects.{Settles, still, owes, gives}
-use Rattle.vc_laws.proofs.Steps.{HasJob, Puts, puts_fault, puts_copy, puts_frame, puts_picture, puts_damage, Ends, alone, kept, ended, halts, spends, done_out, done_cap, moved_out, ClaimsCap, probes, runs, Step, calls, rests, lacks_job, claims, finishes, faults, step_of}
+use Rattle.vc_laws.proofs.Steps.{HasJob, Puts, puts_fault, puts_copy, puts_frame, puts_picture, puts_damage, Ends, alone, kept, ended, halts, spends, done_out, done_cap, moved_out, ClaimsCap, probes, runs, Step, calls, rests, lacks_job, claims, finishes, faults}
 use Rattle.vc_laws.proofs.Tidy.{IsTidy, IsRunOf, HasRun}
 use Rattle.vc_port.specs.Payloads.{is_of_job}
-use Rattle.vc_encode_flow.specs.Frames.{frames_from, state_from}
 use Rattle.vc_encode_flow.specs.Flows.{FlowSoFar, frames_for, state_for, payloads, AreGood, RunsAt, IsEncoding, HasFrames, HasFault, IsUnderWay}
 use Rattle.vc_encode_flow.proofs.Frames.{frames_append, state_append}
 

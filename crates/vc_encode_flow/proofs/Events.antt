@@ -1,5 +1,5 @@
 -- What one event and one call more do to a flow.
-use Rattle.std.proofs.Common.{ℕ, ◌≡◌, ◌≢◌, ◌≤◌, ◌+◌, Bool, true, false, cond, ◌&&◌, Some, None, List, [], ◌∷◌, ◌++◌, refl, sym, ap, ◌∙◌, subst, arith, append_assoc}
+use Rattle.std.proofs.Common.{ℕ, ◌≡◌, ◌≢◌, ◌+◌, Bool, true, false, Some, None, List, [], ◌∷◌, ◌++◌, refl, sym, ap, ◌∙◌, subst, arith, append_assoc}
 use Rattle.std.proofs.lemmas.Bool.{false≢true}
 use Rattle.std.proofs.lemmas.List.{append-nil}
 use Rattle.vc_base.specs.declared.Call.{Call}
@@ -7,7 +7,7 @@ use Rattle.vc_base.specs.declared.Reply.{Reply}
 use Rattle.vc_base.specs.declared.Reply.TheVariants.{Blocked}
 use Rattle.vc_model.specs.Coder.{the_coder}
 use Rattle.vc_model.specs.Context.{Context, Slot}
-use Rattle.vc_model.specs.Answer.{Answer, answer}
+use Rattle.vc_model.specs.Answer.{answer}
 use Rattle.vc_model.specs.Handed.{handed_by, handed_by_call, handed_out, finishes_by_fault}
 use Rattle.vc_model.specs.Solo.{SoloEvent, Called, Claims, Finishes, SoloReply, Answered, SoloEntry, solo_step, solo_run, solo_slot}
 use Rattle.vc_model.specs.Sound.{IsOrdered, IsOrderedSlot}
@@ -21,7 +21,7 @@ use Rattle.vc_port.specs.Payloads.{slot_after, told_at, bytes_out, good_finishes
 use Rattle.vc_port.proofs.Handing.{slot-append}
 use Rattle.vc_encode_flow.specs.Frames.{joined}
 use Rattle.vc_encode_flow.specs.Flows.{FlowSoFar, fault_finishes, IsEncoding, IsUnderWay, IsFlow}
-use Rattle.vc_encode_flow.proofs.Encoding.{count_of, GoesOn, job_goes_on, under_way_later}
+use Rattle.vc_encode_flow.proofs.Encoding.{count_of, job_goes_on, under_way_later}
 
 -- One event more
 

@@ -1,17 +1,16 @@
 -- Reading and queueing a picture.
-use Rattle.std.proofs.Common.{ℕ, suc, zero, ◌≡◌, ◌≢◌, ◌≤◌, ◌<◌, ◌+◌, ◌-◌, List, [], ◌∷◌, ◌++◌, length, take, drop, get_or, set, Option, Some, None, refl, sym, ap, ◌∙◌, subst, arith, append_assoc, length-append, length-take, length-drop, Bool, true}
-use Rattle.std.specs.Io.KnownBytes.{Consumes}
+use Rattle.std.proofs.Common.{ℕ, suc, zero, ◌≡◌, List, [], ◌∷◌, ◌++◌, length, take, drop, get_or, set, Option, Some, None, refl, ap, ◌∙◌, subst, Bool}
 use Rattle.vc_base.specs.declared.Stamp.{Stamp}
-use Rattle.vc_base.specs.declared.Side.TheVariants.{Out, Cap}
+use Rattle.vc_base.specs.declared.Side.TheVariants.{Out}
 use Rattle.vc_base.specs.declared.Call.TheVariants.{QBuf, DqBuf}
 use Rattle.vc_base.specs.declared.Reply.TheVariants.{Taken, Done}
 use Rattle.vc_model.specs.Solo.{SoloEvent}
 use Rattle.vc_queue.specs.Cells.{bytes_or_none}
 use Rattle.vc_queue.specs.Holds.{HoldState, held_payload, with_payload, HasRoom, written_over}
 use Rattle.vc_queue.specs.Answers.{queued_bytes}
-use Rattle.vc_port.specs.Payloads.{slot_after, IsCallOn}
+use Rattle.vc_port.specs.Payloads.{IsCallOn}
 use Rattle.vc_encode_flow.specs.Flows.{FlowSoFar, with_picture, IsFlow}
-use Rattle.vc_encode_flow.proofs.Calls.{quiet_flow, is_quiet, quiet_dq}
+use Rattle.vc_encode_flow.proofs.Calls.{quiet_flow, quiet_dq}
 use Rattle.vc_encode_flow.proofs.Events.{asked}
 use Rattle.vc_encode_flow.proofs.Pictures.{picture_flow}
 

@@ -1,5 +1,5 @@
 -- Frames of pictures that go on.
-use Rattle.std.proofs.Common.{ℕ, ◌≡◌, List, [], ◌∷◌, ◌++◌, map, refl, sym, ap, ◌∙◌}
+use Rattle.std.proofs.Common.{ℕ, ◌≡◌, List, [], ◌∷◌, ◌++◌, map, refl, ap}
 use Rattle.std.specs.List.{flat_map}
 use Rattle.vc_base.specs.declared.Format.{Format}
 use Rattle.vc_defs.specs.declared.Geometry.{Geometry}

@@ -1,6 +1,7 @@
 pub mod Asking
 pub mod Blank
 pub mod Calls
+pub mod Closed
 pub mod Encoding
 pub mod Events
 pub mod Filling
@@ -9,3 +10,4 @@ pub mod Pictures
 pub mod Setting
 pub mod Stopping
 pub mod Taken
+pub mod Whole

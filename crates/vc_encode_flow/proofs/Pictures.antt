@@ -1,6 +1,6 @@
 -- What queueing a picture and taking a frame do to a flow.
-use Rattle.std.proofs.Common.{ℕ, suc, ◌≡◌, ◌≢◌, ◌≤◌, ◌<◌, ◌+◌, Bool, true, false, not, cond, ◌&&◌, Option, Some, None, List, [], ◌∷◌, ◌++◌, map, length, refl, sym, ap, ◌∙◌, subst, arith, append_assoc, inl, inr, ◌⊎◌}
-use Rattle.std.specs.List.{list_all, flat_map}
+use Rattle.std.proofs.Common.{ℕ, ◌≡◌, ◌<◌, Bool, true, false, not, Option, Some, None, List, [], ◌∷◌, ◌++◌, refl, sym, ap, ◌∙◌, subst, arith, append_assoc, inl, inr}
+use Rattle.std.specs.List.{list_all}
 use Rattle.std.proofs.lemmas.Bool.{false≢true}
 use Rattle.std.proofs.lemmas.List.{map-append, append-nil}
 use Rattle.std.proofs.lemmas.Grind.{flat_map-append}
@@ -9,28 +9,23 @@ use Rattle.vc_base.specs.declared.Side.{Side}
 use Rattle.vc_base.specs.declared.Side.TheVariants.{Out, Cap}
 use Rattle.vc_base.specs.declared.Errno.{Errno}
 use Rattle.vc_base.specs.declared.Errno.TheVariants.{NoEnt, Again, NoMem, Busy, Inval, NoTty, Pipe}
-use Rattle.vc_base.specs.declared.Call.{Call}
 use Rattle.vc_base.specs.declared.Call.TheVariants.{QBuf, DqBuf}
-use Rattle.vc_base.specs.declared.Reply.{Reply}
-use Rattle.vc_base.specs.declared.Reply.TheVariants.{Done, Taken, Refused, Blocked}
-use Rattle.vc_base.specs.Buffers.{Buffer, QueueState, is_empty, with_index, queued_buffer, queue_held, qbuf_refusal, qbuf_after, refuse_if, dqbuf_refusal, dqbuf_after, taken, take_front}
-use Rattle.vc_defs.specs.Encoder.{RunRates, EncoderState, fresh_encoder}
-use Rattle.vc_model.specs.Coder.{encoder, the_coder}
-use Rattle.vc_model.specs.Context.{Context, Slot, PhaseState, run, settle, with_queue, sizeimage}
-use Rattle.vc_model.specs.Answer.{Answer, answer, answered, unless, unless_or_block, context_answer, qbuf_answer, is_part_of_picture, dqbuf_answer, taken_answer, after_taking, stop_at_last, is_ended}
+use Rattle.vc_base.specs.declared.Reply.TheVariants.{Done, Taken}
+use Rattle.vc_base.specs.Buffers.{Buffer, is_empty, with_index, queued_buffer, queue_held, qbuf_refusal, qbuf_after, refuse_if, dqbuf_refusal, dqbuf_after, take_front}
+use Rattle.vc_model.specs.Context.{Context, PhaseState, run, settle, with_queue, sizeimage}
+use Rattle.vc_model.specs.Answer.{Answer, answer, answered, unless, unless_or_block, context_answer, is_part_of_picture, taken_answer, after_taking, stop_at_last, is_ended}
 use Rattle.vc_model.specs.Places.{has_error}
 use Rattle.vc_model.specs.Solo.{SoloEvent, Called}
 use Rattle.vc_model.specs.Sound.{IsOrdered}
 use Rattle.vc_model.proofs.Tests.{and_left, and_right}
 use Rattle.vc_laws.proofs.Effects.{settle_is, held_there}
-use Rattle.vc_port.specs.Payloads.{slot_after, bytes_out, good_finishes}
-use Rattle.vc_encode_flow.specs.Frames.{frames_from, state_from, joined}
-use Rattle.vc_encode_flow.specs.Flows.{FlowSoFar, with_picture, with_frame, fault_finishes, frames_for, state_for, payloads, AreGood, IsEncoding, HasFrames, HasFault, IsUnderWay, IsFlow}
+use Rattle.vc_port.specs.Payloads.{good_finishes}
+use Rattle.vc_encode_flow.specs.Frames.{joined}
+use Rattle.vc_encode_flow.specs.Flows.{FlowSoFar, with_picture, with_frame, fault_finishes, payloads, AreGood, IsUnderWay, IsFlow}
 use Rattle.vc_encode_flow.proofs.Encoding.{settled_same}
 use Rattle.vc_encode_flow.proofs.Events.{IsAsked, call_flow}
 use Rattle.vc_encode_flow.proofs.Calls.{ordered}
 use Rattle.vc_encode_flow.proofs.Blank.{faults_later}
-use Rattle.vc_encode_flow.proofs.Frames.{frames_append}
 
 -- Queueing a picture
 

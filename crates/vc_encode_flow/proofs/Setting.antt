@@ -1,5 +1,5 @@
 -- Controls in their ranges are set.
-use Rattle.std.proofs.Common.{ℕ, ◌≡◌, ◌≤◌, nat_le, Bool, true, false, cond, ◌&&◌, Some, None, refl, ap, ◌∙◌}
+use Rattle.std.proofs.Common.{ℕ, ◌≡◌, ◌≤◌, nat_le, Bool, true, false, cond, ◌&&◌, Some, None, ap, ◌∙◌}
 use Rattle.std.proofs.lemmas.Bool.{le-leb}
 use Rattle.vc_base.specs.declared.Kind.TheVariants.{Enc}
 use Rattle.vc_defs.specs.Encoder.{RunRates}

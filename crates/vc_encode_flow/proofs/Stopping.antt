@@ -1,18 +1,17 @@
 -- Where a flow is after a step, and how a step that fails leaves it.
-use Rattle.std.proofs.Common.{ℕ, suc, zero, ◌≡◌, ◌≤◌, ◌<◌, ◌+◌, List, [], ◌∷◌, ◌++◌, map, length, take, drop, Option, Some, None, refl, sym, ap, ◌∙◌, subst, arith, append_assoc, length-append, inl, inr, ◌⊎◌}
+use Rattle.std.proofs.Common.{ℕ, ◌≡◌, ◌+◌, List, [], ◌∷◌, ◌++◌, take, drop, Option, Some, None, refl, sym, ap, ◌∙◌, subst, arith, append_assoc, length-append, inl, inr}
 use Rattle.std.specs.Prelude.{Result, Ok, Err, OnOk, OnErr, IfErr, IsErrOf}
 use Rattle.std.specs.Io.KnownBytes.{Appends}
-use Rattle.std.proofs.lemmas.List.{append-nil, take-append-drop, length-map}
+use Rattle.std.proofs.lemmas.List.{append-nil, take-append-drop}
 use Rattle.std.proofs.lemmas.Grind.{flat_map-append}
-use Rattle.vc_base.specs.Buffers.{Buffer}
-use Rattle.vc_defs.specs.Encoder.{RunRates, EncoderState, fresh_encoder}
+use Rattle.vc_defs.specs.Encoder.{fresh_encoder}
 use Rattle.vc_io.specs.Written.{AppendsFront}
 use Rattle.vc_model.specs.Context.{Context}
 use Rattle.vc_model.specs.Solo.{SoloEvent}
 use Rattle.vc_port.specs.Payloads.{bytes_out, good_finishes}
-use Rattle.vc_encode_flow.specs.Frames.{frames_from, state_from, joined}
-use Rattle.vc_encode_flow.specs.Flows.{FlowSoFar, frames_for, state_for, payloads, HasFrames, HasFault, IsUnderWay, IsFlow, HandedFirst, fault_finishes}
-use Rattle.vc_encode_flow.specs.Steps.{IsAt, StopsEarly, HasTaken, with_frames, HasBytes, IsTaken}
+use Rattle.vc_encode_flow.specs.Frames.{frames_from, joined}
+use Rattle.vc_encode_flow.specs.Flows.{FlowSoFar, frames_for, state_for, payloads, IsUnderWay, IsFlow, HandedFirst, fault_finishes}
+use Rattle.vc_encode_flow.specs.Steps.{IsAt, StopsEarly, HasTaken, with_frames}
 use Rattle.vc_encode_flow.specs.declared.ends.Stop.{Stop}
 use Rattle.vc_encode_flow.specs.declared.ends.Stop.TheVariants.{EngineFault, NoMemory}
 use Rattle.vc_encode_flow.proofs.Frames.{frames_append}

@@ -1,12 +1,12 @@
 -- The payload of a frame that was taken.
-use Rattle.std.proofs.Common.{ℕ, suc, zero, ◌≡◌, ◌≢◌, ◌≤◌, ◌<◌, List, [], ◌∷◌, ◌++◌, length, take, get_or, set, Bool, true, false, Option, Some, None, refl, sym, ap, ◌∙◌, subst}
+use Rattle.std.proofs.Common.{ℕ, suc, zero, ◌≡◌, ◌≤◌, ◌<◌, List, [], ◌∷◌, length, get_or, set, Bool, true, false, Option, Some, None, sym, ap, subst}
 use Rattle.vc_base.specs.declared.Stamp.{Stamp}
-use Rattle.vc_base.specs.declared.Side.TheVariants.{Out, Cap}
-use Rattle.vc_base.specs.declared.Call.TheVariants.{QBuf, DqBuf}
-use Rattle.vc_base.specs.declared.Reply.TheVariants.{Taken, Done}
+use Rattle.vc_base.specs.declared.Side.TheVariants.{Cap}
+use Rattle.vc_base.specs.declared.Call.TheVariants.{DqBuf}
+use Rattle.vc_base.specs.declared.Reply.TheVariants.{Taken}
 use Rattle.vc_model.specs.Places.{has_error}
 use Rattle.vc_model.specs.Solo.{SoloEvent}
-use Rattle.vc_queue.specs.Holds.{HoldState, held_payload, with_payload}
+use Rattle.vc_queue.specs.Holds.{HoldState, held_payload}
 use Rattle.vc_context.specs.Payloads.{FitsSlot}
 use Rattle.vc_port.specs.Payloads.{slot_after, IsCallOn}
 use Rattle.vc_port.specs.Laws.{BeginsWith}

@@ -1,5 +1,5 @@
 -- What a flow of pictures through one encoder did so far, and what the events of its slot have of it.
-use Rattle.std.specs.Prelude.{ℕ, ◌≡◌, ◌⊎◌, ◌+◌, ◌≤◌, ◌<◌, Bool, true, not, map, length, Option, Some, None, List, [], ◌∷◌, ◌++◌}
+use Rattle.std.specs.Prelude.{ℕ, ◌≡◌, ◌⊎◌, ◌+◌, ◌≤◌, ◌<◌, true, not, map, length, Option, Some, None, List, [], ◌∷◌, ◌++◌}
 use Rattle.std.specs.List.{list_all}
 use Rattle.vc_base.specs.declared.Format.{Format}
 use Rattle.vc_base.specs.declared.Side.TheVariants.{Out}

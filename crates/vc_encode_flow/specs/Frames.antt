@@ -2,7 +2,7 @@
 use Rattle.std.specs.Prelude.{ℕ, List, [], ◌∷◌}
 use Rattle.std.specs.List.{flat_map}
 use Rattle.vc_base.specs.declared.Format.{Format}
-use Rattle.vc_defs.specs.Encoder.{RunRates, EncoderState, fresh_encoder, encode}
+use Rattle.vc_defs.specs.Encoder.{RunRates, EncoderState, encode}
 
 -- the frames of raw pictures of a format, from a state on
 abbrev pub frames_from : EncoderState → Format → RunRates → List (List ℕ) → List (List ℕ)

@@ -1,8 +1,7 @@
 -- Where a flow is between its steps, and where it is when it stops early.
-use Rattle.std.specs.Prelude.{ℕ, ◌≡◌, ◌≤◌, ◌<◌, take, length, Option, Some, None, List, [], ◌∷◌, ◌++◌}
-use Rattle.std.specs.Io.KnownBytes.{Appends, Consumes, IsAtEnd}
+use Rattle.std.specs.Prelude.{ℕ, ◌≡◌, ◌≤◌, take, length, Option, Some, None, List, [], ◌∷◌, ◌++◌}
+use Rattle.std.specs.Io.KnownBytes.{Appends}
 use Rattle.vc_model.specs.Solo.{SoloEvent}
-use Rattle.vc_port.specs.Payloads.{good_finishes, bytes_out}
 use Rattle.vc_encode_flow.specs.Frames.{joined}
 use Rattle.vc_encode_flow.specs.Flows.{FlowSoFar, frames_for, IsFlow, HandedFirst}
 

@@ -109,3 +109,29 @@ pub(crate) fn collect<R: Wait, P: PayloadPort, K: Sink>(
     write_frame(port, sink, frame)?;
     queue_capture(port, frame.index)
 }
+
+/// Collects so many frames.
+pub(crate) fn collect_all<R: Wait, P: PayloadPort, K: Sink>(
+    rt: &R,
+    port: &mut P,
+    sink: &mut K,
+    count: u32,
+) -> Result<(), Stop>
+    requires ready { P.ready port.old }
+    ensures ready { P.ready port.new }
+    ensures follows { P.follows port.old port.new }
+    ensures taken { (start : List SoloEvent) (f : FlowSoFar) (first : Option (List ℕ)) → IsAt start f first (K.written sink.old) (P.events port.old) → OnOk result (HasTaken start f count first (K.written sink.new) (P.events port.new)) }
+    ensures stopped { (start : List SoloEvent) (f : FlowSoFar) (first : Option (List ℕ)) → IsAt start f first (K.written sink.old) (P.events port.old) → OnErr result (StopsEarly start f first (K.written sink.new) (P.events port.new)) }
+    ensures engine { (start : List SoloEvent) (f : FlowSoFar) (first : Option (List ℕ)) → IsAt start f first (K.written sink.old) (P.events port.old) → IsErrOf result Stop.EngineFault → fault_finishes start < fault_finishes (P.events port.new) }
+    ensures later { K.faults sink.old ≤ K.faults sink.new }
+    ensures write { IsErrOf result Stop.WriteFault → Rose (K.faults sink.old) (K.faults sink.new) }
+    ensures stops { IfErr result (λ stop. (stop ≢ Stop.ReadFault) × (stop ≢ Stop.TooLong)) }
+{
+    for _frame in 0..count {
+        match collect(rt, port, sink) {
+            Ok(()) => {}
+            Err(stop) => return Err(stop),
+        }
+    }
+    Ok(())
+}

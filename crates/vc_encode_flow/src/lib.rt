@@ -4,6 +4,7 @@
 //! the slot hands out to a sink.
 #![tactic(auto)]
 
+mod closing;
 mod collecting;
 mod ends;
 mod feeding;

@@ -1,6 +1,6 @@
 use Rattle.std.proofs.Common.{refl, ◌∷◌, []}
 use Rattle.vc_encode_flow.specs.Flows.{IsFlow}
-use Rattle.vc_encode_flow.specs.Steps.{IsAt, HasTaken, with_frames}
+use Rattle.vc_encode_flow.specs.Steps.{HasTaken, with_frames}
 use Rattle.vc_encode_flow.proofs.Stopping.{stopped_at, stopped_later, wrote_front, wrote_frame, on_err, on_ok, no_fault, same_error}
 use Rattle.vc_encode_flow.proofs.collecting.collect.Goals as goal
 

@@ -1,4 +1,4 @@
-use Rattle.std.proofs.Common.{◌≡◌, true, false, refl, sym, ◌∙◌}
+use Rattle.std.proofs.Common.{◌≡◌, true, false}
 use Rattle.vc_model.specs.Places.{has_error}
 use Rattle.vc_encode_flow.proofs.Asking.{hands_first}
 use Rattle.vc_encode_flow.proofs.Taken.{there, is_taken, fault_taken}

@@ -1,4 +1,4 @@
-use Rattle.std.proofs.Common.{refl, ap, sym, subst}
+use Rattle.std.proofs.Common.{refl, sym, subst}
 use Rattle.vc_encode_flow.specs.Flows.{IsFlow, HandedFirst}
 use Rattle.vc_encode_flow.proofs.Asking.{hands_first}
 use Rattle.vc_encode_flow.proofs.Filling.{picture_queued}
