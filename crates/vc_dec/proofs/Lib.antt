@@ -23,3 +23,4 @@ pub mod Seeking
 pub mod Serves
 pub mod Serving
 pub mod Settled
+pub mod Trying

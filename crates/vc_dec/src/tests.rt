@@ -4,6 +4,8 @@ ghost use Rattle.std.specs.Prelude.{◌<◌, ◌+◌, length, IfOk};
 ghost use Rattle.vc_context.specs.Contexts.{IsKept, IsCounted};
 ghost use Rattle.vc_context.specs.Payloads.{FitsContext};
 
+mod ends;
+
 use super::*;
 use std::process::Abort;
 use std::test::Fail;
