@@ -6,6 +6,7 @@ pub mod Encoding
 pub mod Events
 pub mod Filling
 pub mod Frames
+pub mod Going
 pub mod Pictures
 pub mod Setting
 pub mod Stopping

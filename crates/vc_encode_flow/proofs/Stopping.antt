@@ -17,13 +17,13 @@ use Rattle.vc_encode_flow.specs.declared.ends.Stop.TheVariants.{EngineFault, NoM
 use Rattle.vc_encode_flow.proofs.Frames.{frames_append}
 
 -- one piece after another
-appends_both : (old mid new : Option (List ℕ)) (xs ys : List ℕ) → Appends old mid xs → Appends mid new ys → Appends old new (xs ++ ys)
+pub appends_both : (old mid new : Option (List ℕ)) (xs ys : List ℕ) → Appends old mid xs → Appends mid new ys → Appends old new (xs ++ ys)
 appends_both None mid new xs ys a b = tt
 appends_both (Some o) None new xs ys a b = absurd a
 appends_both (Some o) (Some m) None xs ys a b = absurd b
 appends_both (Some o) (Some m) (Some n) xs ys a b = b ∙ (ap (λ z. z ++ ys) a ∙ append_assoc o xs ys)
 
-joined_append : (xs ys : List (List ℕ)) → joined (xs ++ ys) ≡ joined xs ++ joined ys
+pub joined_append : (xs ys : List (List ℕ)) → joined (xs ++ ys) ≡ joined xs ++ joined ys
 joined_append xs ys = flat_map-append (λ (piece : List ℕ). piece) xs ys
 
 -- the frames of the first pictures are the first frames

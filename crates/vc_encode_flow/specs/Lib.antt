@@ -1,3 +1,4 @@
+pub mod Endings
 pub mod Flows
 pub mod Frames
 pub mod Steps

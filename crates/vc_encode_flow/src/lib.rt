@@ -8,6 +8,8 @@ mod closing;
 mod collecting;
 mod ends;
 mod feeding;
+mod flowing;
 mod opening;
 
 pub use ends::FlowEnd;
+pub use flowing::encode_on;
