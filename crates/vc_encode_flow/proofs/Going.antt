@@ -1,5 +1,5 @@
 -- A flow between two pictures: what was read, queued and taken so far.
-use Rattle.std.proofs.Common.{ℕ, suc, zero, nat_eq, ◌≡◌, ◌≤◌, ◌<◌, ◌+◌, ◌*◌, ◌/◌, ◌%◌, ◌^◌, ◌⊎◌, min, List, [], ◌∷◌, ◌++◌, length, take, Bool, true, false, Option, Some, None, refl, sym, ap, ◌∙◌, subst, arith, All, append-nil, append_assoc, length-append, div-add-mod', le_trans, mul-le-mul_right, inl, inr}
+use Rattle.std.proofs.Common.{ℕ, suc, zero, nat_eq, ◌≡◌, ◌≤◌, ◌<◌, ◌+◌, ◌*◌, ◌/◌, ◌%◌, ◌^◌, ◌⊎◌, min, List, [], ◌∷◌, ◌++◌, length, Bool, true, false, Option, Some, None, refl, sym, ap, ◌∙◌, subst, arith, All, append-nil, length-append, div-add-mod', inl, inr}
 use Rattle.std.specs.Prelude.{Result, Ok, Err, IsErrAnd, IsErrOf}
 use Rattle.std.specs.Io.KnownBytes.{Appends, Consumes, IsAtEnd}
 use Rattle.std.proofs.KnownBytes.{Consumes-nil, Consumes-trans}
@@ -7,14 +7,14 @@ use Rattle.std.proofs.lemmas.Bool.{cases_lt, eqb-true}
 use Rattle.std.proofs.lemmas.List.Elements.{All-push}
 use Rattle.vc_base.specs.Counts.{Rose}
 use Rattle.vc_model.specs.Solo.{SoloEvent}
-use Rattle.vc_port.specs.Payloads.{bytes_out, good_finishes}
+use Rattle.vc_port.specs.Payloads.{bytes_out}
 use Rattle.vc_encode_flow.specs.Frames.{joined}
-use Rattle.vc_encode_flow.specs.Flows.{FlowSoFar, frames_for, with_picture, HasBegun, IsFlow, HandedFirst, fault_finishes}
+use Rattle.vc_encode_flow.specs.Flows.{FlowSoFar, with_picture, HasBegun, IsFlow, HandedFirst}
 use Rattle.vc_encode_flow.specs.Steps.{IsAt, StopsEarly, HasTaken, with_frames}
 use Rattle.vc_encode_flow.specs.Endings.{IsThrough, IsCutShort, BeginsWith, IsLong}
 use Rattle.vc_encode_flow.specs.declared.ends.Stop.{Stop}
 use Rattle.vc_encode_flow.specs.declared.ends.Stop.TheVariants.{EngineFault}
-use Rattle.vc_encode_flow.proofs.Stopping.{joined_append, stopped_at, stopped_after, stopped_later}
+use Rattle.vc_encode_flow.proofs.Stopping.{joined_append, stopped_at, stopped_later}
 use Rattle.vc_encode_flow.proofs.Whole.{all_taken}
 
 -- the flow with these pictures queued and these frames taken

@@ -2,7 +2,9 @@ pub mod Asking
 pub mod Blank
 pub mod Calls
 pub mod Closed
+pub mod Cutting
 pub mod Encoding
+pub mod Ending
 pub mod Events
 pub mod Filling
 pub mod Frames

@@ -122,6 +122,10 @@ pub record HasBegun (f : FlowSoFar) : Type 0 where
 abbrev pub IsKept : Format → Type 0
 IsKept format = (formats_for Enc Out (formats_at_open Enc) format).out ≡ format
 
+-- the rates of these controls
+abbrev pub rates_of : ℕ → ℕ → ℕ → RunRates
+rates_of gop iqp pqp = record { gop = gop; iqp = iqp; pqp = pqp }
+
 -- the flow over a slot whose format and rates were set
 abbrev pub flow_of : Format → RunRates → FlowSoFar
 flow_of format rates = record { format = format; rates = rates; queued = []; taken = [] }

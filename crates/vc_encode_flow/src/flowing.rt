@@ -1,14 +1,13 @@
 //! The flow: raw pictures in, frames out.
 
-ghost use Rattle.std.specs.Prelude.{◌≡◌, ◌≢◌, ◌<◌, ◌≤◌, ◌+◌, ◌^◌, ℕ, true, false, None, List, [], Option, min, length, OnOk, OnErr, IfOk, IfErr, IsErrOf};
+ghost use Rattle.std.specs.Prelude.{◌≡◌, ◌≢◌, ◌<◌, ◌≤◌, ◌+◌, ◌^◌, ℕ, true, false, None, List, [], Option, min, length, Ok, Err, OnOk, OnErr, IfOk, IfErr, IsErrOf};
 ghost use Rattle.std.specs.List.{All};
 ghost use Rattle.std.specs.Io.KnownBytes.{Appends, Consumes, IsAtEnd};
 ghost use Rattle.vc_base.specs.Counts.{Rose};
 ghost use Rattle.vc_defs.specs.Laws.{AreRates};
 ghost use Rattle.vc_model.specs.Solo.{SoloEvent};
 ghost use Rattle.vc_port.specs.Payloads.{slot_after};
-ghost use Rattle.vc_work.specs.Runs.{run_rates};
-ghost use Rattle.vc_encode_flow.specs.Flows.{FlowSoFar, HasBegun, IsKept, HandedFirst, fault_finishes};
+ghost use Rattle.vc_encode_flow.specs.Flows.{FlowSoFar, HasBegun, flow_of, IsKept, HandedFirst, fault_finishes, rates_of};
 ghost use Rattle.vc_encode_flow.specs.Steps.{IsAt, StopsEarly, HasTaken};
 ghost use Rattle.vc_encode_flow.specs.Endings.{IsThrough, IsCutShort, IsWritten, IsFrontWritten, IsLong};
 
@@ -20,9 +19,9 @@ use crate::opening::{BUFFERS, open_encoder};
 use std::alloc::Global;
 use std::sync::Wait;
 use vc_base::Format;
+use vc_core::Rates;
 use vc_io::{Sink, Source};
 use vc_port::PayloadPort;
-use vc_work::Rates;
 
 /// The most bytes of an input.
 const MAX_INPUT: u64 = 1 << 40;
@@ -97,23 +96,45 @@ fn run_flow<R: Wait, P: PayloadPort, S: Source, K: Sink>(
     sink: &mut K,
     format: &Format,
     rates: &Rates,
-) -> Result<bool, Stop> {
-    let mut picture = Vec::new(alloc);
-    if picture.resize(format.size as usize, 0).is_err() {
+) -> Result<bool, Stop>
+    requires ready { P.ready port.old }
+    requires closed { slot_after (P.events port.old) ≡ None }
+    requires kept { IsKept format.now }
+    requires rates { AreRates (rates_of rates.now.gop rates.now.iqp rates.now.pqp) }
+    ensures ready { P.ready port.new }
+    ensures follows { P.follows port.old port.new }
+    ensures through { IfOk result (λ whole. IsThrough (P.events port.old) (flow_of format.now (rates_of rates.now.gop rates.now.iqp rates.now.pqp)) format.now.size whole (K.written sink.old) (K.written sink.new) (S.left source.old) (S.left source.new) (P.events port.new)) }
+    ensures stopped { OnErr result (IsCutShort (P.events port.old) (flow_of format.now (rates_of rates.now.gop rates.now.iqp rates.now.pqp)) format.now.size (K.written sink.old) (K.written sink.new) (S.left source.old) (P.events port.new)) }
+    ensures long { IsErrOf result Stop.TooLong → IsLong (S.left source.old) (S.left source.new) }
+    ensures engine { IsErrOf result Stop.EngineFault → fault_finishes (P.events port.old) < fault_finishes (P.events port.new) }
+    ensures read { IsErrOf result Stop.ReadFault → Rose (S.faults source.old) (S.faults source.new) }
+    ensures write { IsErrOf result Stop.WriteFault → Rose (K.faults sink.old) (K.faults sink.new) }
+{
+    let Ok(mut picture) = vec![in alloc; 0; format.size as usize] else {
         return Err(Stop::NoMemory);
-    }
+    };
     open_encoder(port, format, rates)?;
-    encode_pictures(rt, port, source, sink, picture.as_mut_slice())
+    encode_pictures(rt, port, source, sink, &mut picture)
 }
 
-/// How a flow ends that was stopped.
-fn end_of(stop: Stop) -> FlowEnd {
-    match stop {
-        Stop::ReadFault => FlowEnd::ReadFault,
-        Stop::WriteFault => FlowEnd::WriteFault,
-        Stop::EngineFault => FlowEnd::EngineFault,
-        Stop::TooLong => FlowEnd::TooLong,
-        Stop::NoMemory => FlowEnd::NoMemory,
+/// How a flow ends that came through, with or without a part of a picture at its end, or was stopped.
+fn end_of(ended: Result<bool, Stop>) -> FlowEnd
+    ensures whole { result ≡ FlowEnd.Whole → ended ≡ Ok true }
+    ensures short { result ≡ FlowEnd.ShortRaw → ended ≡ Ok false }
+    ensures read { result ≡ FlowEnd.ReadFault → ended ≡ Err Stop.ReadFault }
+    ensures write { result ≡ FlowEnd.WriteFault → ended ≡ Err Stop.WriteFault }
+    ensures engine { result ≡ FlowEnd.EngineFault → ended ≡ Err Stop.EngineFault }
+    ensures long { result ≡ FlowEnd.TooLong → ended ≡ Err Stop.TooLong }
+    ensures undamaged { result ≢ FlowEnd.Damaged }
+{
+    match ended {
+        Ok(true) => FlowEnd::Whole,
+        Ok(false) => FlowEnd::ShortRaw,
+        Err(Stop::ReadFault) => FlowEnd::ReadFault,
+        Err(Stop::WriteFault) => FlowEnd::WriteFault,
+        Err(Stop::EngineFault) => FlowEnd::EngineFault,
+        Err(Stop::TooLong) => FlowEnd::TooLong,
+        Err(Stop::NoMemory) => FlowEnd::NoMemory,
     }
 }
 
@@ -136,24 +157,20 @@ pub fn encode_on<R: Wait, P: PayloadPort, S: Source, K: Sink>(
     requires ready { P.ready port.old }
     requires closed { slot_after (P.events port.old) ≡ None }
     requires kept { IsKept format.now }
-    requires rates { AreRates (run_rates rates.now) }
+    requires rates { AreRates (rates_of rates.now.gop rates.now.iqp rates.now.pqp) }
     ensures ready { P.ready port.new }
     ensures follows { P.follows port.old port.new }
     ensures closed { slot_after (P.events port.new) ≡ None }
-    ensures whole { result ≡ FlowEnd.Whole → IsWritten format.now (run_rates rates.now) false (S.left source.old) (S.left source.new) (K.written sink.old) (K.written sink.new) (P.events port.old) (P.events port.new) }
-    ensures short { result ≡ FlowEnd.ShortRaw → IsWritten format.now (run_rates rates.now) true (S.left source.old) (S.left source.new) (K.written sink.old) (K.written sink.new) (P.events port.old) (P.events port.new) }
-    ensures front { IsFrontWritten format.now (run_rates rates.now) (S.left source.old) (K.written sink.old) (K.written sink.new) (P.events port.old) (P.events port.new) }
+    ensures whole { result ≡ FlowEnd.Whole → IsWritten format.now (rates_of rates.now.gop rates.now.iqp rates.now.pqp) false (S.left source.old) (S.left source.new) (K.written sink.old) (K.written sink.new) (P.events port.old) (P.events port.new) }
+    ensures short { result ≡ FlowEnd.ShortRaw → IsWritten format.now (rates_of rates.now.gop rates.now.iqp rates.now.pqp) true (S.left source.old) (S.left source.new) (K.written sink.old) (K.written sink.new) (P.events port.old) (P.events port.new) }
+    ensures front { IsFrontWritten format.now (rates_of rates.now.gop rates.now.iqp rates.now.pqp) (S.left source.old) (K.written sink.old) (K.written sink.new) (P.events port.old) (P.events port.new) }
     ensures read { result ≡ FlowEnd.ReadFault → Rose (S.faults source.old) (S.faults source.new) }
     ensures write { result ≡ FlowEnd.WriteFault → Rose (K.faults sink.old) (K.faults sink.new) }
     ensures engine { result ≡ FlowEnd.EngineFault → fault_finishes (P.events port.old) < fault_finishes (P.events port.new) }
     ensures long { result ≡ FlowEnd.TooLong → IsLong (S.left source.old) (S.left source.new) }
     ensures undamaged { result ≢ FlowEnd.Damaged }
 {
-    let end = match run_flow(rt, alloc, port, source, sink, format, rates) {
-        Ok(true) => FlowEnd::Whole,
-        Ok(false) => FlowEnd::ShortRaw,
-        Err(stop) => end_of(stop),
-    };
+    let ended = run_flow(rt, alloc, port, source, sink, format, rates);
     close_slot(rt, port);
-    end
+    end_of(ended)
 }

@@ -7,14 +7,13 @@ ghost use Rattle.vc_defs.specs.Laws.{AreRates};
 ghost use Rattle.vc_model.specs.Answer.{with_control};
 ghost use Rattle.vc_model.specs.Solo.{SoloEvent};
 ghost use Rattle.vc_port.specs.Payloads.{slot_after};
-ghost use Rattle.vc_work.specs.Runs.{run_rates};
-ghost use Rattle.vc_encode_flow.specs.Flows.{FlowSoFar, flow_at_open, flow_of, with_format, with_rates, HasBegun, IsKept, IsFlow, HandedFirst};
+ghost use Rattle.vc_encode_flow.specs.Flows.{FlowSoFar, flow_at_open, flow_of, with_format, with_rates, HasBegun, IsKept, IsFlow, HandedFirst, rates_of};
 
 use crate::ends::Stop;
 use vc_base::{Call, Format, Kind, Reply, Side, Stamp};
+use vc_core::Rates;
 use vc_port::PayloadPort;
 use vc_wait::call_on;
-use vc_work::Rates;
 
 /// The buffers of each queue.
 pub(crate) const BUFFERS: u32 = 4;
@@ -146,10 +145,10 @@ fn queue_captures<P: PayloadPort>(port: &mut P) -> Result<(), Stop>
 
 fn set_rates<P: PayloadPort>(port: &mut P, rates: &Rates) -> Result<(), Stop>
     requires ready { P.ready port.old }
-    requires rates { AreRates (run_rates rates.now) }
+    requires rates { AreRates (rates_of rates.now.gop rates.now.iqp rates.now.pqp) }
     ensures ready { P.ready port.new }
     ensures follows { P.follows port.old port.new }
-    ensures flow { (start : List SoloEvent) (f : FlowSoFar) → HasBegun f → IsFlow start f (P.events port.old) → OnOk result (IsFlow start (with_rates f (run_rates rates.now)) (P.events port.new)) }
+    ensures flow { (start : List SoloEvent) (f : FlowSoFar) → HasBegun f → IsFlow start f (P.events port.old) → OnOk result (IsFlow start (with_rates f (rates_of rates.now.gop rates.now.iqp rates.now.pqp)) (P.events port.new)) }
     ensures hands { (start : List SoloEvent) (bytes : List ℕ) → HandedFirst start bytes (P.events port.old) → HandedFirst start bytes (P.events port.new) }
     ensures memory { IfErr result (λ stop. stop ≡ Stop.NoMemory) }
 {
@@ -184,10 +183,10 @@ pub(crate) fn open_encoder<P: PayloadPort>(
     requires ready { P.ready port.old }
     requires closed { slot_after (P.events port.old) ≡ None }
     requires kept { IsKept format.now }
-    requires rates { AreRates (run_rates rates.now) }
+    requires rates { AreRates (rates_of rates.now.gop rates.now.iqp rates.now.pqp) }
     ensures ready { P.ready port.new }
     ensures follows { P.follows port.old port.new }
-    ensures flow { OnOk result (IsFlow (P.events port.old) (flow_of format.now (run_rates rates.now)) (P.events port.new)) }
+    ensures flow { OnOk result (IsFlow (P.events port.old) (flow_of format.now (rates_of rates.now.gop rates.now.iqp rates.now.pqp)) (P.events port.new)) }
     ensures hands { (start : List SoloEvent) (bytes : List ℕ) → HandedFirst start bytes (P.events port.old) → HandedFirst start bytes (P.events port.new) }
     ensures memory { IfErr result (λ stop. stop ≡ Stop.NoMemory) }
 {

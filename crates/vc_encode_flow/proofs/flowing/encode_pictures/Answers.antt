@@ -1,6 +1,6 @@
-use Rattle.std.proofs.Common.{ℕ, List, Option, ◌≡◌, ◌<◌, ◌≤◌, ◌+◌, nat_eq, length, take, arith, length-take, subst, sym, ◌∙◌, ap}
+use Rattle.std.proofs.Common.{◌≡◌, ◌<◌, ◌≤◌, nat_eq, length, take, arith, length-take, subst, ◌∙◌}
 use Rattle.std.proofs.lemmas.List.{take_all}
-use Rattle.std.specs.Io.KnownBytes.{Consumes, IsAtEnd}
+use Rattle.std.specs.Io.KnownBytes.{Consumes}
 use Rattle.vc_encode_flow.proofs.Stopping.{on_err}
 use Rattle.vc_encode_flow.proofs.Going.{with_both, goes, goes_on_next, goes_through, goes_wrong, goes_no_further, goes_unfed_next, read_none, read_more, passed_on, is_zero, is_more}
 use Rattle.vc_encode_flow.proofs.flowing.encode_pictures.Goals as goal

@@ -1,4 +1,3 @@
-use Rattle.std.proofs.Common.{◌≡◌, ◌<◌, ◌≤◌, arith}
 use Rattle.vc_encode_flow.specs.Flows.{IsFlow}
 use Rattle.vc_encode_flow.specs.Steps.{HasTaken, with_frames}
 use Rattle.vc_encode_flow.proofs.Stopping.{none_taken, stopped_later, on_err, on_ok, same_error}

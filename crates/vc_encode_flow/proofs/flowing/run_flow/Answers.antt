@@ -1,0 +1,15 @@
+use Rattle.std.proofs.Common.{refl, []}
+use Rattle.vc_encode_flow.proofs.Stopping.{on_err}
+use Rattle.vc_encode_flow.proofs.Ending.{at_open, handed_none, cut_at_once}
+use Rattle.vc_encode_flow.proofs.flowing.run_flow.Goals as goal
+
+pub returns-in_default-clause-stopped : goal.returns-in_default-clause-stopped
+returns-in_default-clause-stopped g c = cut_at_once _ _ _ _ _ _ (handed_none (g.P.PayloadPort.events c.args.port.now))
+
+pub returns-in_err-open_encoder-clause-stopped : goal.returns-in_err-open_encoder-clause-stopped
+returns-in_err-open_encoder-clause-stopped g c =
+    on_err _ (cut_at_once _ _ _ _ _ _ (c.in_err-open_encoder.ensures.hands (g.P.PayloadPort.events c.args.port.now) [] (handed_none (g.P.PayloadPort.events c.args.port.now))))
+
+pub returns-clause-engine : goal.returns-clause-engine
+returns-clause-engine g c =
+    c.encode_pictures.ensures.engine _ _ (g.K.Sink.written c.args.sink.now) (record { queued = refl; taken = refl }) (at_open _ _ _ _ _ c.in_ok-open_encoder.ensures.flow)
