@@ -20,6 +20,8 @@ pub enum FlowEnd {
     /// 2^40 bytes were read.
     TooLong,
     /// Memory was wanting.
+    // A call that the slot refuses for another reason is answered so too. The flow makes no such call, but that is not
+    // proved.
     NoMemory,
 }
 

@@ -71,6 +71,8 @@ fn encode_pictures<R: Wait, P: PayloadPort, S: Source, K: Sink>(
     ensures stopped { (start : List SoloEvent) (f : FlowSoFar) (first : Option (List ℕ)) → HasBegun f → IsAt start f first (K.written sink.old) (P.events port.old) → OnErr result (IsCutShort start f (length picture.old) first (K.written sink.new) (S.left source.old) (P.events port.new)) }
     ensures long { IsErrOf result Stop.TooLong → IsLong (S.left source.old) (S.left source.new) }
     ensures engine { (start : List SoloEvent) (f : FlowSoFar) (first : Option (List ℕ)) → HasBegun f → IsAt start f first (K.written sink.old) (P.events port.old) → IsErrOf result Stop.EngineFault → fault_finishes start < fault_finishes (P.events port.new) }
+    ensures source_later { S.faults source.old ≤ S.faults source.new }
+    ensures sink_later { K.faults sink.old ≤ K.faults sink.new }
     ensures read { IsErrOf result Stop.ReadFault → Rose (S.faults source.old) (S.faults source.new) }
     ensures write { IsErrOf result Stop.WriteFault → Rose (K.faults sink.old) (K.faults sink.new) }
 {
@@ -107,6 +109,8 @@ fn run_flow<R: Wait, P: PayloadPort, S: Source, K: Sink>(
     ensures stopped { OnErr result (IsCutShort (P.events port.old) (flow_of format.now (rates_of rates.now.gop rates.now.iqp rates.now.pqp)) format.now.size (K.written sink.old) (K.written sink.new) (S.left source.old) (P.events port.new)) }
     ensures long { IsErrOf result Stop.TooLong → IsLong (S.left source.old) (S.left source.new) }
     ensures engine { IsErrOf result Stop.EngineFault → fault_finishes (P.events port.old) < fault_finishes (P.events port.new) }
+    ensures source_later { S.faults source.old ≤ S.faults source.new }
+    ensures sink_later { K.faults sink.old ≤ K.faults sink.new }
     ensures read { IsErrOf result Stop.ReadFault → Rose (S.faults source.old) (S.faults source.new) }
     ensures write { IsErrOf result Stop.WriteFault → Rose (K.faults sink.old) (K.faults sink.new) }
 {
@@ -139,12 +143,16 @@ fn end_of(ended: Result<bool, Stop>) -> FlowEnd
 }
 
 /// Encodes the raw pictures of the input, one after another, with one encoder of the device, and writes their
-/// frames.
+/// frames (docs/FORMAT.md, "The sequential encoder").
 ///
-/// The slot is closed before and after. Four buffers of each queue are used. Both queues stream, and the CAPTURE
-/// buffers are queued, before the first picture is read. A picture is queued before a byte past it is read, and no reply
-/// is waited for before four pictures are queued or the input has ended. The slot gives one frame for each picture,
-/// so the flow is done when it took as many.
+/// The slot is closed before and after. The format is one that the device sets as it is asked for, and a picture has
+/// `format.size` bytes. What is written is a front of the input's frames, and of what the slot handed out; it is all of
+/// both where the flow ends with `Whole`, and with `ShortRaw`, where the input ends inside a picture. The flow never ends
+/// with `Damaged`.
+///
+/// Four buffers of each queue are used. Both queues stream, and the CAPTURE buffers are queued, before the first
+/// picture is read. A picture is queued before a byte past it is read, and no reply is waited for before four pictures
+/// are queued or the input has ended. The slot gives one frame for each picture, so the flow is done when it took as many.
 pub fn encode_on<R: Wait, P: PayloadPort, S: Source, K: Sink>(
     rt: &R,
     alloc: Global,
@@ -164,6 +172,8 @@ pub fn encode_on<R: Wait, P: PayloadPort, S: Source, K: Sink>(
     ensures whole { result ≡ FlowEnd.Whole → IsWritten format.now (rates_of rates.now.gop rates.now.iqp rates.now.pqp) false (S.left source.old) (S.left source.new) (K.written sink.old) (K.written sink.new) (P.events port.old) (P.events port.new) }
     ensures short { result ≡ FlowEnd.ShortRaw → IsWritten format.now (rates_of rates.now.gop rates.now.iqp rates.now.pqp) true (S.left source.old) (S.left source.new) (K.written sink.old) (K.written sink.new) (P.events port.old) (P.events port.new) }
     ensures front { IsFrontWritten format.now (rates_of rates.now.gop rates.now.iqp rates.now.pqp) (S.left source.old) (K.written sink.old) (K.written sink.new) (P.events port.old) (P.events port.new) }
+    ensures source_later { S.faults source.old ≤ S.faults source.new }
+    ensures sink_later { K.faults sink.old ≤ K.faults sink.new }
     ensures read { result ≡ FlowEnd.ReadFault → Rose (S.faults source.old) (S.faults source.new) }
     ensures write { result ≡ FlowEnd.WriteFault → Rose (K.faults sink.old) (K.faults sink.new) }
     ensures engine { result ≡ FlowEnd.EngineFault → fault_finishes (P.events port.old) < fault_finishes (P.events port.new) }
