@@ -1,7 +1,7 @@
 //! Scripts over decoder contexts.
 //!
 //! In these scripts and texts `$` stands for an I frame of 16 by 16 samples of 128, `%` for the P frame that follows it,
-//! `&` for an I frame of 32 by 16 such samples, and `#` for 256 bytes `80`.
+//! `&` for an I frame of 32 by 16 such samples, and `#`, `~` and `_` for 256 bytes `80`, `ff` and `00`.
 
 use crate::tests::{Failing, run};
 use std::alloc::Global;
@@ -19,10 +19,10 @@ const NEXT_FRAME: &str =
 const WIDE_FRAME: &str =
     "4f4f4f4fffffffff000000030000002000000010000804000000000000000000000000000000000000000004000e000f";
 
-/// Streams of whole and broken frames: two frames in one buffer; a frame that is cut by the next one's
-/// magic, by its end or by its size field; a P frame that is passed over after a seek; a size above the
-/// limit.
-const STREAMS: [(&str, &str); 5] = [
+/// Streams of whole and broken frames: two frames in one buffer; a frame that is cut by the next one's magic, by its end
+/// or by its size field; a P frame that is passed over after a seek; a size above the limit; the brightest and the darkest
+/// picture.
+const STREAMS: [(&str, &str); 6] = [
     (
         "0 open dec\n0 sfmt out FWHT 16 16 0\n0 sub 5\n0 req out 2\n0 q out 0 9 $$\n0 on out\nrun 0\n0 ev\n0 gfmt cap\n0 req cap 2\n0 q cap 0\n0 q cap 1\n0 on cap\nrun 0\n0 dq out\nrun 0\n0 dq out\n0 dq cap\n0 dq cap\n",
         "0 open ok\n0 sfmt ok FWHT 16 16 556\n0 sub ok\n0 req ok 2\n0 q ok\n0 on ok\n0 claim\n0 finish changed\n0 ev ok 5 0 1 0\n0 gfmt ok GREY 16 16 256\n0 req ok 2\n0 q ok\n0 q ok\n0 on ok\n0 claim\n0 finish picture\n0 dq EAGAIN\n0 claim\n0 finish picture\n0 dq ok 0 96 0 0 9 -\n0 dq ok 0 256 8 0 9 #\n0 dq ok 1 256 8 1 9 #\n",
@@ -42,6 +42,10 @@ const STREAMS: [(&str, &str); 5] = [
     (
         "0 open dec\n0 sfmt out FWHT 16 16 1\n0 req out 2\n0 q out 0 1 4f4f4f4fffffffff0000000300000010000000100008040000000000000000000000000000000000000000410006000f\n0 q out 1 2 $\n0 on out\nrun 0\nrun 0\n",
         "0 open ok\n0 sfmt ok FWHT 16 16 64\n0 req ok 2\n0 q ok\n0 q ok\n0 on ok\n0 claim\n0 finish spent\n0 claim\n0 finish changed\n",
+    ),
+    (
+        "0 open dec\n0 sfmt out FWHT 16 16 0\n0 req out 2\n0 q out 0 1 4f4f4f4fffffffff00000004000000100000001000080400000000000000000000000000000000000000000600067f00000f\n0 q out 1 2 4f4f4f4fffffffff00000004000000100000001000080400000000000000000000000000000000000000000600068000000f\n0 on out\nrun 0\n0 req cap 2\n0 q cap 0\n0 q cap 1\n0 on cap\nrun 0\nrun 0\n0 dq cap\n0 dq cap\n",
+        "0 open ok\n0 sfmt ok FWHT 16 16 556\n0 req ok 2\n0 q ok\n0 q ok\n0 on ok\n0 claim\n0 finish changed\n0 req ok 2\n0 q ok\n0 q ok\n0 on ok\n0 claim\n0 finish picture\n0 claim\n0 finish picture\n0 dq ok 0 256 8 0 1 ~\n0 dq ok 1 256 8 1 2 _\n",
     ),
 ];
 
@@ -142,6 +146,8 @@ fn unfolded(alloc: Global, text: &str) -> Result<Vec<u8>, NoMemory> {
             b'%' => bytes.extend_from_slice(NEXT_FRAME.as_bytes())?,
             b'&' => bytes.extend_from_slice(WIDE_FRAME.as_bytes())?,
             b'#' => bytes.extend_from_slice("80".as_bytes().repeat(alloc, 256)?.as_slice())?,
+            b'~' => bytes.extend_from_slice("ff".as_bytes().repeat(alloc, 256)?.as_slice())?,
+            b'_' => bytes.extend_from_slice("00".as_bytes().repeat(alloc, 256)?.as_slice())?,
             other => bytes.extend_from_slice(&[other])?,
         }
     }
