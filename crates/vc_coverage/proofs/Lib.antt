@@ -1,0 +1,5 @@
+pub mod KeyHeaders
+pub mod Chains
+pub mod Ends
+pub mod Reaching
+pub mod Turns

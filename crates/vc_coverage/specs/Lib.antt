@@ -1,0 +1,3 @@
+pub mod KeyHeaders
+pub mod Reaching
+pub mod Covering
