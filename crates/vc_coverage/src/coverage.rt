@@ -93,7 +93,7 @@ impl Coverage {
         self.reach.covered < self.read
     }
 
-    /// Whether the legal header of an I frame stands in the bytes that were read. Without one they have
+    /// Whether the header of an I frame was read, whole and legal. Bytes without one have
     /// [no results](crate::laws::no_results_without_key_header).
     pub fn has_key_header(&self) -> bool
         ensures { (bytes : List ℕ) → HasRead self.now bytes → result ≡ has_key_header bytes most_bytes }

@@ -1,0 +1,5 @@
+use Rattle.vc_coverage.proofs.KeyHeaders.{no_output_without_key_header}
+use Rattle.vc_coverage.proofs.laws.no_output_without_key_header.Goals as goal
+
+pub returns : goal.returns
+returns c = no_output_without_key_header
