@@ -13,32 +13,33 @@ const KEY: [u8; 48] = [
     0, 0, 0, 0, 0, 0, 0, 0, 0, 0, 0, 0, 0, 0, 0, 0, 0, 0, 0, 4, 0, 6, 0, 15,
 ];
 
-/// A line of the table: how many bytes of the first frame there are, the four bytes of its size field, the flags that say
-/// whether it is an I frame, what stands behind it, whether a byte is left, and whether the header of an I frame is there.
+/// A line of the table: how many bytes of the first frame there are, the four bytes of its size field, the flags' byte that
+/// says whether it is an I frame, what stands behind it, whether a byte is left, and whether the header of an I frame is there.
 type Line<'a> = (usize, [u8; 4], u8, &'a [u8], bool, bool);
 
 /// The size field of a frame with four bytes.
 const FOUR: [u8; 4] = [0, 0, 0, 4];
 
-/// The flags of an I frame, and those of a P frame.
-const I: u8 = 4;
+/// The flags' byte that makes an I frame.
+const I_FRAME: u8 = 4;
 
-const P: u8 = 0;
+/// The flags' byte that makes a P frame.
+const P_FRAME: u8 = 0;
 
 /// Streams by what stands in front.
 const TABLE: [Line; 12] = [
-    (0, FOUR, I, &[], false, false),
-    (0, FOUR, I, &[0], true, false),
-    (48, FOUR, I, &[], false, true),
-    (48, FOUR, I, &[0, 0, 0], true, true),
-    (48, FOUR, I, &KEY, false, true),
-    (48, FOUR, P, &[], false, false),
-    (40, FOUR, I, &[], true, false),
-    (43, FOUR, I, &[], true, false),
-    (41, FOUR, I, &KEY, false, true),
-    (48, [0, 0, 0, 5], I, &KEY, false, true),
-    (48, [1, 14, 0, 0], I, &KEY, false, true),
-    (48, [1, 14, 0, 1], I, &KEY, true, true),
+    (0, FOUR, I_FRAME, &[], false, false),
+    (0, FOUR, I_FRAME, &[0], true, false),
+    (48, FOUR, I_FRAME, &[], false, true),
+    (48, FOUR, I_FRAME, &[0, 0, 0], true, true),
+    (48, FOUR, I_FRAME, &KEY, false, true),
+    (48, FOUR, P_FRAME, &[], false, false),
+    (40, FOUR, I_FRAME, &[], true, false),
+    (43, FOUR, I_FRAME, &[], true, false),
+    (41, FOUR, I_FRAME, &KEY, false, true),
+    (48, [0, 0, 0, 5], I_FRAME, &KEY, false, true),
+    (48, [1, 14, 0, 0], I_FRAME, &KEY, false, true),
+    (48, [1, 14, 0, 1], I_FRAME, &KEY, true, true),
 ];
 
 /// The stream of a line.
