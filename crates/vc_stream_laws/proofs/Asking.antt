@@ -72,7 +72,7 @@ go_on start new f g request bytes told handed a good bad =
 
 -- Quiet calls
 
-blocked_or_not : (told : Reply) → (told ≡ Blocked) ⊎ (told ≢ Blocked)
+pub blocked_or_not : (told : Reply) → (told ≡ Blocked) ⊎ (told ≢ Blocked)
 blocked_or_not Blocked = inl refl
 blocked_or_not told = inr (λ e. absurd (cc))
 

@@ -36,7 +36,7 @@ use Rattle.vc_laws.proofs.Tidy.{always_tidy}
 use Rattle.vc_port.specs.Payloads.{slot_after}
 use Rattle.vc_stream_laws.specs.Streams.{StreamSoFar, with_queued, KnownStop, not_known, some_stop, stop_by_change, has_failed, IsWaiting, IsDraining, IsKnown, IsDecoder, IsTaken, IsGood, IsSpoilt}
 use Rattle.vc_stream_laws.proofs.Decoders.{stopped_is_over, IsAlong, failed_append, drains_same, known_same, known_on, decoder_like, settled_decoder, settled_out, settled_geometry, settled_late}
-use Rattle.vc_stream_laws.proofs.Goings.{IsNext, grown_segment, event_keeps, good_step}
+use Rattle.vc_stream_laws.proofs.Goings.{IsNext, grown_segment, good_step}
 use Rattle.vc_stream_laws.proofs.Jobs.{spoilt_step}
 use Rattle.vc_stream_laws.proofs.Waiting.{more_waits}
 use Rattle.vc_stream_laws.proofs.Quiet.{IsCallNext, call_next, call_good, empty_drops, effect_then, ordered_at}
@@ -46,7 +46,7 @@ use Rattle.vc_laws.specs.Taking.{call_drops}
 use Rattle.vc_model.specs.Places.{is_honest_call}
 
 -- a call that is done was not refused
-unless_none : (c : Context) (o : Option Errno) (a : Answer) → (unless c o a).reply ≡ Done → o ≡ None
+pub unless_none : (c : Context) (o : Option Errno) (a : Answer) → (unless c o a).reply ≡ Done → o ≡ None
 unless_none c None a e = refl
 unless_none c (Some x) a e = absurd (cc)
 

@@ -33,9 +33,10 @@ use Rattle.vc_laws.proofs.Outcomes.{retired_are_results, segments_begin, follows
 use Rattle.vc_queue.specs.Holds.{HoldState}
 use Rattle.vc_port.specs.Payloads.{slot_after, bytes_out, good_finishes, IsCallOn}
 use Rattle.vc_stream_laws.specs.Streams.{StreamSoFar, has_failed, rest_of, BeginsUnknown, IsGood, IsUnspoilt, IsDecoded}
-use Rattle.vc_stream_laws.specs.Laws.{HandsFrontOut, FrontIsHandedOut, DrainIsOver}
+use Rattle.vc_stream_laws.specs.Laws.{HandsFrontOut, FrontIsHandedOut, DrainIsOver, NoResultsNoOutput}
 use Rattle.vc_stream_laws.proofs.Decoders.{failed_append}
 use Rattle.vc_stream_laws.proofs.Events.{slot_both, bytes_both, good_both, bytes_more, finishes_more}
+use Rattle.vc_stream_laws.proofs.Goings.{none_begins}
 use Rattle.vc_stream_laws.proofs.Jobs.{halted_jobs}
 use Rattle.vc_stream_laws.proofs.Calls.{stop_over}
 use Rattle.vc_stream_laws.proofs.Counting.{results_counted}
@@ -85,10 +86,6 @@ given_first since c (Some r) at k l e b =
     let front = (follows since c r at k e).front in
     let limit : r.limit ≡ most_bytes = (decoding since c at k).limit r e ∙ l in
     (front.0, sym (front.1 ∙ (ap (λ n. results seg.bytes n r.geometry None) limit ∙ ap (λ g. results seg.bytes most_bytes g None) b)))
-
-none_begins : (o : Option Running) (g : _) → BeginsUnknown o g → BeginsUnknown o None
-none_begins None g b = refl
-none_begins (Some r) g b = b
 
 -- one front after another
 pub front_of_output : (f : StreamSoFar) (since input : _) → IsGood f since → IsPrefix f.queued input → IsPrefix f.handed (decode_output input)
@@ -238,3 +235,14 @@ drain_is_over start old new f before after captures ends known w call =
     let phase = stop_over f since [] call.found captures ends good reply in
     let goes_on : new ≡ start ++ (since ++ e ∷ []) = call.events ∙ (one_call (old ++ call.jobs) Done e (λ (p : Done ≡ Blocked). absurd (cc)) ∙ (ap (λ (es : List SoloEvent). es ++ e ∷ []) all ∙ append_assoc start since (e ∷ []))) in
     decoded_at start new since f call.found w.closed goes_on (record { good = good; complete = good.complete (ap is_over phase); done = good.decodes.emptied (ap is_stopped phase) })
+
+-- No results
+
+pub no_results_no_output : NoResultsNoOutput
+unfolding decode_output result_count
+no_results_no_output input e =
+    record {
+      output = ap pictures_of e;
+      undamaged = ap (λ (rs : List FrameResult). list_any (λ (r : FrameResult). is_damage r.kind) rs) e;
+      count = ap (λ (rs : List FrameResult). length (filter (λ (r : FrameResult). not (is_change_result r.kind)) rs)) e;
+    }

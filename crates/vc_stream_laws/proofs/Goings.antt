@@ -49,20 +49,20 @@ pub grown_segment : (seg : Segment) (c y : Context) (e : SoloEvent) (told : Solo
 grown_segment seg c y e told n =
     ap (λ b. cond b (fresh_segment y.out.ready) (Grown seg (after_event the_coder seg c e) c y e told)) n
 
-pub run_keeps : (seg : Segment) (c : Context) (r : Running) (result : RunResult) → ((after_run seg r (job_data c r) result).retired ≡ seg.retired) × ((after_run seg r (job_data c r) result).sources ≡ seg.sources)
-run_keeps seg c r (copied bytes) = (refl, refl)
-run_keeps seg c r (encoded frame) = (refl, refl)
-run_keeps seg c r (decoded step) = (refl, refl)
+run_keeps : (seg : Segment) (c : Context) (r : Running) (result : RunResult) → (after_run seg r (job_data c r) result).retired ≡ seg.retired
+run_keeps seg c r (copied bytes) = refl
+run_keeps seg c r (encoded frame) = refl
+run_keeps seg c r (decoded step) = refl
 
-job_keeps : (seg : Segment) (c : Context) (o : Option Running) → ((after_job the_coder seg c o).retired ≡ seg.retired) × ((after_job the_coder seg c o).sources ≡ seg.sources)
-job_keeps seg c None = (refl, refl)
+job_keeps : (seg : Segment) (c : Context) (o : Option Running) → (after_job the_coder seg c o).retired ≡ seg.retired
+job_keeps seg c None = refl
 job_keeps seg c (Some r) = run_keeps seg c r (run_result the_coder (job_data c r))
 
--- the end of a run changes neither what went to done nor the sources
-pub event_keeps : (seg : Segment) (c : Context) (e : SoloEvent) → ((after_event the_coder seg c e).retired ≡ seg.retired) × ((after_event the_coder seg c e).sources ≡ seg.sources)
-event_keeps seg c (Called request bytes found) = (refl, refl)
-event_keeps seg c Claims = (refl, refl)
-event_keeps seg c (Finishes true) = (refl, refl)
+-- the end of a run does not count what went to done
+event_keeps : (seg : Segment) (c : Context) (e : SoloEvent) → (after_event the_coder seg c e).retired ≡ seg.retired
+event_keeps seg c (Called request bytes found) = refl
+event_keeps seg c Claims = refl
+event_keeps seg c (Finishes true) = refl
 event_keeps seg c (Finishes false) = job_keeps seg c c.running
 
 -- What is taken
@@ -107,7 +107,7 @@ given_all seg queued None f b q n m l a = n refl ∙ (sym no_results ∙ ap inpu
 given_all seg queued (Some r) f b q n m l a =
     a r f ∙ (ap (λ i. results seg.bytes i r.geometry None) (l r f) ∙ (ap (λ g. results seg.bytes most_bytes g None) b ∙ ap input_results q))
 
-none_begins : (o : Option Running) (g : Option Geometry) → BeginsUnknown o g → BeginsUnknown o None
+pub none_begins : (o : Option Running) (g : Option Geometry) → BeginsUnknown o g → BeginsUnknown o None
 none_begins None g b = refl
 none_begins (Some r) g b = b
 
@@ -160,5 +160,5 @@ quiet_step f g since e y w next n r d t h p q =
     let seg = segment_of the_coder since in
     let order = (taken_in_order the_coder since e c y w.stands next d).order in
     let later : y.cap.done ≡ c.cap.done ++ done_now c y = ap (λ b. front_taken b c.cap.done ++ y.cap.done) (sym t) ∙ order in
-    let retired : (segment_of_step the_coder seg c y e told).retired ≡ seg.retired ++ done_now c y = ap (λ (z : Segment). z.retired) (grown_segment seg c y e told r) ∙ ap (λ bs. bs ++ done_now c y) (event_keeps seg c e).0 in
+    let retired : (segment_of_step the_coder seg c y e told).retired ≡ seg.retired ++ done_now c y = ap (λ (z : Segment). z.retired) (grown_segment seg c y e told r) ∙ ap (λ bs. bs ++ done_now c y) (event_keeps seg c e) in
     good_step f g since e y w next n (still_taken f g seg _ c.cap.done y.cap.done (done_now c y) later retired p q w.taken) (ap (λ l. f.handed ++ l) h ∙ (append-nil f.handed ∙ sym p))

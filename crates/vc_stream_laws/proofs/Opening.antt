@@ -44,7 +44,8 @@ use Rattle.vc_stream_laws.proofs.Events.{slot_both, slot_more, bytes_more, count
 use Rattle.vc_stream_laws.proofs.Goings.{grown_segment}
 use Rattle.vc_stream_laws.proofs.Waiting.{new_unbegun}
 use Rattle.vc_stream_laws.proofs.Quiet.{effect_then, ordered_at}
-use Rattle.vc_stream_laws.proofs.Asking.{one_call, answered_at}
+use Rattle.vc_stream_laws.proofs.Asking.{one_call, answered_at, blocked_or_not}
+use Rattle.vc_stream_laws.proofs.Calls.{unless_none}
 
 -- Closed slots
 
@@ -235,10 +236,6 @@ subscribed c event w (has_events events n) = (record c { events = events }, refl
 subscribed c event w (sets_mark y n i b m d u) = absurd (false≢true i)
 subscribed c event w (starts y n i b e u) = absurd (false≢true i)
 
-blocked_or_not : (told : Reply) → (told ≡ Blocked) ⊎ (told ≢ Blocked)
-blocked_or_not Blocked = inl refl
-blocked_or_not told = inr (λ e. absurd (cc))
-
 opened_jobs : (start old jobs : List SoloEvent) (limited : Bool) → AreOfJobs jobs → IsOpened start limited old → IsOpened start limited (old ++ jobs)
 opened_jobs start old jobs limited a w =
     record { closed = w.closed; since = w.since ++ jobs; goes_on = ap (λ (es : List SoloEvent). es ++ jobs) w.goes_on ∙ append_assoc start w.since jobs; fresh = fresh_jobs limited w.since jobs a w.fresh }
@@ -304,15 +301,11 @@ buffers_opened start old new limited before after count number w call =
     opened_call start new limited limited request told a (call_fresh start new limited limited request told y.0 a y.1 refl refl refl y.2 (λ t. ap (λ z. z.out.size) y.3 ∙ a.fresh.limit t) (begins_anew the_coder (fresh_segment []) c y.0 request [] a.found told handed (ap (λ (t : Kind). is_dec t || is_enc t) i.kind) ∙ ap fresh_segment y.2.ready))
 
 -- StreamOn on OUTPUT
-done_none : (c : Context) (o : Option Errno) (a : Answer) → (unless c o a).reply ≡ Done → o ≡ None
-done_none c None a e = refl
-done_none c (Some x) a e = absurd (cc)
-
 on_is : (c : Context) (found : Bool) → (context_answer c (StreamOn Out) [] found).reply ≡ Done → (context_answer c (StreamOn Out) [] found).slot ≡ Some (settle (record c { out = streamon_after c.out }))
 unfolding context_answer
 on_is c found reply =
     let effect = answered (with_queue c Out (streamon_after c.out)) Done in
-    ap (λ o. (unless c o effect).slot) (done_none c (streamon_refusal c.out (sizeimage c Out)) effect reply)
+    ap (λ o. (unless c o effect).slot) (unless_none c (streamon_refusal c.out (sizeimage c Out)) effect reply)
 
 fresh_good : (since : List SoloEvent) → (w : IsFresh true since) → w.context.out.streams ≡ true → IsGood stream_at_start since
 fresh_good since w s =

@@ -87,22 +87,18 @@ unfoldable pub is_calm : Call → Bool
 is_calm (DqBuf Out block) = true
 is_calm request = is_quiet request
 
+or_true : (b : Bool) → (b || true) ≡ true
+or_true true = refl
+or_true false = refl
+
 pub calm_of_quiet : (request : Call) (told : Reply) → (is_refusal told || is_quiet request) ≡ true → (is_refusal told || is_calm request) ≡ true
 unfolding is_calm
 calm_of_quiet (DqBuf Out block) told q = or_true (is_refusal told)
-  where
-    or_true : (b : Bool) → (b || true) ≡ true
-    or_true true = refl
-    or_true false = refl
 calm_of_quiet request told q = q
 
 pub calm_source : (block : Bool) (told : Reply) → (is_refusal told || is_calm (DqBuf Out block)) ≡ true
 unfolding is_calm
 calm_source block told = or_true (is_refusal told)
-  where
-    or_true : (b : Bool) → (b || true) ≡ true
-    or_true true = refl
-    or_true false = refl
 
 is_new_capture : Call → Bool
 is_new_capture (ReqBufs Cap count) = true

@@ -1,6 +1,7 @@
 -- What each call of a decoder's client does to its stream (VIDIOC_QBUF, VIDIOC_DQBUF, VIDIOC_STREAMON, VIDIOC_STREAMOFF,
 -- VIDIOC_DECODER_CMD).
-use Rattle.std.specs.Prelude.{ℕ, ◌≡◌, ◌<◌, Bool, true, false, not, ◌||◌, length, None, List, ◌++◌}
+use Rattle.std.specs.Prelude.{ℕ, ◌≡◌, ◌<◌, Bool, true, false, not, ◌||◌, length, None, List, [], ◌++◌}
+use Rattle.std.specs.List.{list_any}
 use mathlib.Core.List.{IsPrefix}
 use Rattle.vc_base.specs.declared.Side.TheVariants.{Out, Cap}
 use Rattle.vc_base.specs.declared.Kind.TheVariants.{Dec}
@@ -12,7 +13,8 @@ use Rattle.vc_base.specs.declared.Call.TheVariants.{Open, EnumFmt, GetFmt, TryFm
 use Rattle.vc_base.specs.declared.Reply.{Reply}
 use Rattle.vc_base.specs.declared.Reply.TheVariants.{Done, Fmt, Count, Taken, Refused, Blocked}
 use Rattle.vc_defs.specs.Headers.{most_bytes}
-use Rattle.vc_defs.specs.Outputs.{decode_output}
+use Rattle.vc_defs.specs.Decoder.{FrameResult}
+use Rattle.vc_defs.specs.Outputs.{input_results, decode_output, is_damage, result_count}
 use Rattle.vc_model.specs.Places.{has_error}
 use Rattle.vc_model.specs.Solo.{SoloEvent}
 use Rattle.vc_laws.specs.FirstFormats.{call_asks_format}
@@ -23,19 +25,22 @@ use Rattle.vc_stream_laws.specs.Streams.{StreamSoFar, stream_at_start, with_queu
 
 -- Opening
 
+-- Open makes the slot a decoder to which nothing was given.
 abbrev pub Opens : Type 0
 Opens =
     (start new : List SoloEvent) (before after : HoldState) → slot_after start ≡ None → IsCallOn start before (Open Dec) Done new after → IsOpened start false new
 
+-- A subscription leaves it so.
 abbrev pub SubscribesOpened : Type 0
 SubscribesOpened =
     (start old new : List SoloEvent) (limited : Bool) (before after : HoldState) (event : ℕ) (told : Reply) → IsOpened start limited old → IsCallOn old before (Subscribe event) told new after → IsOpened start limited new
 
--- SetFmt asks for the largest limit
+-- A SetFmt that asks for the largest limit gives it.
 abbrev pub LimitsOpened : Type 0
 LimitsOpened =
     (start old new : List SoloEvent) (limited : Bool) (before after : HoldState) (want format : Format) → want.size ≡ most_bytes → IsOpened start limited old → IsCallOn old before (SetFmt Out want) (Fmt format) new after → IsOpened start true new
 
+-- New OUTPUT buffers leave it so.
 abbrev pub BuffersOpened : Type 0
 BuffersOpened =
     (start old new : List SoloEvent) (limited : Bool) (before after : HoldState) (count number : ℕ) → IsOpened start limited old → IsCallOn old before (ReqBufs Out count) (Count number) new after → IsOpened start limited new
@@ -47,12 +52,13 @@ StreamBegins =
 
 -- Calls that leave the stream
 
+-- the call was refused, or is not answered yet
 abbrev pub is_refusal : Reply → Bool
 is_refusal (Refused errno) = true
 is_refusal Blocked = true
 is_refusal reply = false
 
--- calls that only ask, events, CAPTURE buffers that are queued or made anew, and a StreamOn of OUTPUT
+-- calls that only ask, calls on events, and those that queue CAPTURE buffers, make them anew or let OUTPUT stream
 abbrev pub is_quiet : Call → Bool
 is_quiet (EnumFmt side index) = true
 is_quiet (GetFmt side) = true
@@ -68,10 +74,12 @@ is_quiet (GetCtrl id) = true
 is_quiet Poll = true
 is_quiet request = false
 
+-- A call that is refused, or a quiet one, leaves the stream.
 abbrev pub QuietCallsKeep : Type 0
 QuietCallsKeep =
     (start old new : List SoloEvent) (f : StreamSoFar) (before after : HoldState) (request : Call) (told : Reply) → (is_refusal told || is_quiet request) ≡ true → call_asks_format request ≡ false → IsStream start f old → IsCallOn old before request told new after → IsStream start f new
 
+-- Claims and finishes leave it.
 abbrev pub JobsKeep : Type 0
 JobsKeep =
     (start events jobs : List SoloEvent) (f : StreamSoFar) → AreOfJobs jobs → IsStream start f events → IsStream start f (events ++ jobs)
@@ -83,7 +91,7 @@ abbrev pub BytesAreQueued : Type 0
 BytesAreQueued =
     (start old new : List SoloEvent) (f : StreamSoFar) (before after : HoldState) (index used : ℕ) (stamp : Stamp) → f.ends ≡ false → let bytes = handed_over (QBuf Out index used stamp) before in length bytes ≡ used → IsStream start f old → IsCallOn old before (QBuf Out index used stamp) Done new after → IsStream start (with_queued f bytes) new
 
--- an OUTPUT buffer without ERROR comes back
+-- An OUTPUT buffer without ERROR comes back, and the stream stays.
 abbrev pub SourcesComeBack : Type 0
 SourcesComeBack =
     (start old new : List SoloEvent) (f : StreamSoFar) (before after : HoldState) (block : Bool) (index used flags seq : ℕ) (stamp : Stamp) → has_error flags ≡ false → IsStream start f old → IsCallOn old before (DqBuf Out block) (Taken index used flags seq stamp) new after → IsStream start f new
@@ -100,11 +108,12 @@ NoneLeftTells =
 
 -- CAPTURE
 
+-- After StreamOn on CAPTURE it streams.
 abbrev pub CaptureStarts : Type 0
 CaptureStarts =
     (start old new : List SoloEvent) (f : StreamSoFar) (before after : HoldState) → IsStream start f old → IsCallOn old before (StreamOn Cap) Done new after → IsStream start (record f { captures = true }) new
 
--- a CAPTURE buffer is taken, with its bytes and flags
+-- A CAPTURE buffer that is taken hands its bytes out, and is damaged where it has ERROR.
 abbrev pub PicturesAreTaken : Type 0
 PicturesAreTaken =
     (start old new : List SoloEvent) (f : StreamSoFar) (before after : HoldState) (block : Bool) (index used flags seq : ℕ) (stamp : Stamp) → IsStream start f old → (call : IsCallOn old before (DqBuf Cap block) (Taken index used flags seq stamp) new after) → IsStream start (record f { handed = f.handed ++ call.handed; damaged = f.damaged || has_error flags }) new
@@ -150,3 +159,12 @@ pub record HandsFrontOut (start : List SoloEvent) (f : StreamSoFar) (events : Li
 abbrev pub FrontIsHandedOut : Type 0
 FrontIsHandedOut =
     (start events : List SoloEvent) (f : StreamSoFar) (input : List ℕ) → IsUnspoilt start f events → IsPrefix f.queued input → HandsFrontOut start f events input
+
+-- The output of an input without results is empty, and it has no damage.
+pub record HasNoOutput (input : List ℕ) : Type 0 where
+  pub output : decode_output input ≡ []
+  pub undamaged : list_any (λ (r : FrameResult). is_damage r.kind) (input_results input) ≡ false
+  pub count : result_count input ≡ 0
+
+abbrev pub NoResultsNoOutput : Type 0
+NoResultsNoOutput = (input : List ℕ) → input_results input ≡ [] → HasNoOutput input

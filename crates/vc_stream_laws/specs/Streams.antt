@@ -51,6 +51,7 @@ abbrev pub stream_at_start : StreamSoFar
 stream_at_start =
     record { queued = []; handed = []; damaged = false; captures = false; ends = false; known = not_known }
 
+-- these bytes were queued too
 abbrev pub with_queued : StreamSoFar → List ℕ → StreamSoFar
 with_queued f bytes = record f { queued = f.queued ++ bytes }
 
@@ -61,6 +62,7 @@ abbrev pub IsDraining : Bool → Context → Type 0
 IsDraining false c = (c.mark ≡ None) × (is_stopped_by_drain c.phase ≡ false)
 IsDraining true c = (c.mark ≡ Some c.out.next_ordinal) ⊎ (c.phase ≡ stopped drain)
 
+-- the phase is as the client knows it
 abbrev pub IsKnown : KnownStop → Context → Type 0
 IsKnown not_known c = Unit {0}
 IsKnown some_stop c = is_stopped c.phase ≡ true
@@ -87,6 +89,7 @@ BeginsUnknown (Some r) geometry = r.geometry ≡ None
 abbrev pub rest_of : Buffer → List ℕ
 rest_of b = drop b.cursor b.bytes
 
+-- no run consumed a byte of the buffer
 abbrev pub is_unbegun : Buffer → Bool
 is_unbegun b = b.cursor == 0
 
@@ -148,7 +151,7 @@ pub record IsUnspoilt (start : List SoloEvent) (f : StreamSoFar) (events : List 
 
 -- Opening
 
--- A decoder that was opened, and nothing else: neither queue streams or has a buffer that the user doesn't hold.
+-- A decoder that got nothing yet: no OUTPUT buffer is away from the user, CAPTURE does not stream, and no job runs.
 pub record IsIdle (c : Context) : Type 0 where
   pub kind : c.kind ≡ Dec
   pub geometry : c.geometry ≡ None

@@ -1,7 +1,7 @@
 //! Laws over the coded stream of one decoder, call by call. Their subjects are "Decoding", "Drain" and "Dynamic Resolution Change"
 //! of the memory-to-memory stateful video decoder interface in the Linux userspace API documentation.
 
-ghost use Rattle.vc_stream_laws.specs.Laws.{BuffersOpened, BytesAreQueued, CaptureStarts, CaptureStops, ChangesAreTold, DrainBegins, DrainIsOver, FailedSourcesTell, FrontIsHandedOut, JobsKeep, LimitsOpened, NoneLeftTells, Opens, PicturesAreTaken, QuietCallsKeep, SourcesComeBack, StopsAreTold, StopsBeforeEnd, StreamBegins, SubscribesOpened};
+ghost use Rattle.vc_stream_laws.specs.Laws.{BuffersOpened, BytesAreQueued, CaptureStarts, CaptureStops, ChangesAreTold, DrainBegins, DrainIsOver, FailedSourcesTell, FrontIsHandedOut, JobsKeep, LimitsOpened, NoResultsNoOutput, NoneLeftTells, Opens, PicturesAreTaken, QuietCallsKeep, SourcesComeBack, StopsAreTold, StopsBeforeEnd, StreamBegins, SubscribesOpened};
 
 /// Open gives a decoder to which nothing happened.
 pub fn opens()
@@ -101,4 +101,9 @@ pub fn drain_is_over()
 /// Where no job failed, what was handed out is a front of the output of what was queued.
 pub fn front_is_handed_out()
     ensures { FrontIsHandedOut }
+{}
+
+/// An input without results has an empty output, and no damage.
+pub fn no_results_no_output()
+    ensures { NoResultsNoOutput }
 {}
