@@ -1,0 +1,11 @@
+pub mod Asking
+pub mod Calls
+pub mod Counting
+pub mod Decoders
+pub mod Ending
+pub mod Events
+pub mod Goings
+pub mod Jobs
+pub mod Opening
+pub mod Quiet
+pub mod Waiting

@@ -1,0 +1,5 @@
+use Rattle.vc_stream_laws.proofs.Opening.{buffers_opened}
+use Rattle.vc_stream_laws.proofs.laws.buffers_opened.Goals as goal
+
+pub returns : goal.returns
+returns c = buffers_opened

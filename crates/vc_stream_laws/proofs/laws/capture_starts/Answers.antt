@@ -1,0 +1,5 @@
+use Rattle.vc_stream_laws.proofs.Asking.{capture_starts}
+use Rattle.vc_stream_laws.proofs.laws.capture_starts.Goals as goal
+
+pub returns : goal.returns
+returns c = capture_starts

@@ -1,0 +1,5 @@
+use Rattle.vc_stream_laws.proofs.Ending.{drain_is_over}
+use Rattle.vc_stream_laws.proofs.laws.drain_is_over.Goals as goal
+
+pub returns : goal.returns
+returns c = drain_is_over

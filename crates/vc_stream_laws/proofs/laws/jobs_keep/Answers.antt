@@ -1,0 +1,5 @@
+use Rattle.vc_stream_laws.proofs.Jobs.{jobs_keep}
+use Rattle.vc_stream_laws.proofs.laws.jobs_keep.Goals as goal
+
+pub returns : goal.returns
+returns c = jobs_keep

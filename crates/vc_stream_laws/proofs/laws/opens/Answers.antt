@@ -1,0 +1,5 @@
+use Rattle.vc_stream_laws.proofs.Opening.{opens}
+use Rattle.vc_stream_laws.proofs.laws.opens.Goals as goal
+
+pub returns : goal.returns
+returns c = opens

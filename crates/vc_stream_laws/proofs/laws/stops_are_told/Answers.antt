@@ -1,0 +1,5 @@
+use Rattle.vc_stream_laws.proofs.Asking.{stops_are_told}
+use Rattle.vc_stream_laws.proofs.laws.stops_are_told.Goals as goal
+
+pub returns : goal.returns
+returns c = stops_are_told

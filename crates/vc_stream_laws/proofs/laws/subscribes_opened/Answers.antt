@@ -1,0 +1,5 @@
+use Rattle.vc_stream_laws.proofs.Opening.{subscribes_opened}
+use Rattle.vc_stream_laws.proofs.laws.subscribes_opened.Goals as goal
+
+pub returns : goal.returns
+returns c = subscribes_opened
