@@ -1,8 +1,7 @@
 -- Calls on a port, as calls of a slot since it was closed.
-use Rattle.std.proofs.Common.{ℕ, ◌≡◌, ◌≢◌, ◌+◌, ◌<◌, Bool, true, false, cond, ◌||◌, Some, None, List, [], ◌∷◌, ◌++◌, refl, sym, ap, ◌∙◌, subst, arith, append_assoc, ◌⊎◌, inl, inr, ⊎_elim}
+use Rattle.std.proofs.Common.{ℕ, ◌≡◌, ◌≢◌, ◌<◌, Bool, true, false, ◌||◌, Some, None, List, [], ◌∷◌, ◌++◌, refl, sym, ap, ◌∙◌, subst, arith, append_assoc, ◌⊎◌, inl, inr, ⊎_elim}
 use Rattle.std.proofs.lemmas.Bool.{false≢true}
 use Rattle.vc_base.specs.declared.Side.TheVariants.{Out, Cap}
-use Rattle.vc_base.specs.declared.Stamp.{Stamp}
 use Rattle.vc_base.specs.declared.Errno.TheVariants.{Again, Busy, Pipe}
 use Rattle.vc_base.specs.declared.Call.{Call}
 use Rattle.vc_base.specs.declared.Call.TheVariants.{Close, ReqBufs, QBuf, DqBuf, StreamOn, StreamOff, DecCmd}
@@ -17,7 +16,7 @@ use Rattle.vc_model.proofs.Tests.{or_cases}
 use Rattle.vc_queue.specs.Holds.{HoldState}
 use Rattle.vc_context.specs.Payloads.{handed_over}
 use Rattle.vc_port.specs.Payloads.{slot_after, with_call, IsCallOn}
-use Rattle.vc_stream_laws.specs.Streams.{StreamSoFar, with_queued, not_known, some_stop, stop_by_change, faulty_finishes, IsGood, IsSpoilt, IsStream, IsUnspoilt}
+use Rattle.vc_stream_laws.specs.Streams.{StreamSoFar, with_queued, not_known, some_stop, stop_by_change, faulty_finishes, IsGood, IsSpoilt, IsStream}
 use Rattle.vc_stream_laws.specs.Laws.{is_refusal, is_quiet, QuietCallsKeep, BytesAreQueued, SourcesComeBack, FailedSourcesTell, NoneLeftTells, CaptureStarts, PicturesAreTaken, StopsAreTold, StopsBeforeEnd, ChangesAreTold, CaptureStops, DrainBegins}
 use Rattle.vc_stream_laws.proofs.Events.{slot_both, faulty_both, finishes_more}
 use Rattle.vc_stream_laws.proofs.Jobs.{jobs_state, jobs_keep}

@@ -1,9 +1,8 @@
 -- What the other calls of a decoder's client do to its stream, by their answers.
-use Rattle.std.proofs.Common.{ℕ, ◌≡◌, ◌+◌, ◌==◌, Bool, true, false, not, cond, ◌&&◌, ◌||◌, is_none, is_some, Option, Some, None, List, [], ◌∷◌, ◌++◌, length, take, drop, refl, sym, ap, ◌∙◌, subst, append_assoc, eq-eqb, ◌⊎◌, inl, inr}
+use Rattle.std.proofs.Common.{ℕ, ◌≡◌, ◌+◌, Bool, true, false, not, cond, ◌||◌, is_none, is_some, Option, Some, None, List, [], ◌∷◌, ◌++◌, length, take, refl, sym, ap, ◌∙◌, subst, append_assoc, eq-eqb, ◌⊎◌, inl, inr}
 use Rattle.std.proofs.lemmas.Bool.{false≢true}
 use Rattle.std.proofs.lemmas.List.{append-nil}
 use Rattle.std.proofs.lemmas.Grind.{flat_map-append}
-use Rattle.std.proofs.Math.Seq.{drop-append_seam}
 use Rattle.vc_base.specs.declared.Side.{Side}
 use Rattle.vc_base.specs.declared.Side.TheVariants.{Out, Cap}
 use Rattle.vc_base.specs.declared.Stamp.{Stamp}
@@ -17,29 +16,27 @@ use Rattle.vc_base.specs.declared.Reply.{Reply}
 use Rattle.vc_base.specs.declared.Reply.TheVariants.{Done, Taken, Refused, Blocked}
 use Rattle.vc_base.specs.Buffers.{Buffer, QueueState, is_empty, refuse_if, with_index, queued_buffer, queue_held, held_refusal, qbuf_refusal, qbuf_after, take_front, taken, streamon_refusal, streamon_after, streamoff_after}
 use Rattle.vc_model.specs.Coder.{the_coder}
-use Rattle.vc_model.specs.Context.{Context, Slot, Cause, drain, change, PhaseState, run, owe, last, stopped, with_queue, is_dec, is_enc, is_run, is_stopped, is_drain, is_drained, sizeimage, settle}
+use Rattle.vc_model.specs.Context.{Context, Slot, Cause, drain, change, PhaseState, run, owe, last, stopped, with_queue, is_dec, is_enc, is_run, is_stopped, is_drained, sizeimage, settle}
 use Rattle.vc_model.specs.Answer.{Answer, unchanged, refused, answered, unless, unless_or_block, is_part_of_picture, taken_answer, both_stream, is_stopped_by_drain, stop_answer, command_answer, streamoff_effect, after_capture_off, mark_after_restart, answer, context_answer}
 use Rattle.vc_model.specs.Drains.{takes_capture, takes_a_buffer, done_now}
 use Rattle.vc_model.specs.Handed.{handed_by}
 use Rattle.vc_model.specs.Phases.{is_over, is_at_end}
 use Rattle.vc_model.specs.Places.{has_error}
-use Rattle.vc_model.specs.Solo.{SoloEvent, Called, SoloReply, Answered, solo_step}
+use Rattle.vc_model.specs.Solo.{SoloEvent, Called, Answered, solo_step}
 use Rattle.vc_model.specs.Sound.{IsOrdered}
 use Rattle.vc_model.proofs.Tests.{and_both, or_first}
 use Rattle.vc_model.proofs.Firm.{idle}
-use Rattle.vc_laws.specs.Segments.{Segment, segment_of_step, segment_of, whats}
+use Rattle.vc_laws.specs.Segments.{Segment, segment_of_step, segment_of}
 use Rattle.vc_laws.specs.Taking.{front_taken, bytes_of}
 use Rattle.vc_laws.proofs.Effects.{MarkAfterLast, Settles, settle_is, Effect, stays, has_events, takes_cap, takes_last, sets_mark, starts}
-use Rattle.vc_laws.proofs.Segmenting.{goes_on}
 use Rattle.vc_laws.proofs.Taking.{taken_in_order}
 use Rattle.vc_laws.proofs.Tidy.{always_tidy}
-use Rattle.vc_port.specs.Payloads.{slot_after}
 use Rattle.vc_stream_laws.specs.Streams.{StreamSoFar, with_queued, KnownStop, not_known, some_stop, stop_by_change, has_failed, IsWaiting, IsDraining, IsKnown, IsDecoder, IsTaken, IsGood, IsSpoilt}
-use Rattle.vc_stream_laws.proofs.Decoders.{stopped_is_over, IsAlong, failed_append, drains_same, known_same, known_on, decoder_like, settled_decoder, settled_out, settled_geometry, settled_late}
+use Rattle.vc_stream_laws.proofs.Decoders.{stopped_is_over, failed_append, drains_same, known_same, known_on, decoder_like, settled_decoder, settled_out, settled_geometry, settled_late}
 use Rattle.vc_stream_laws.proofs.Goings.{IsNext, grown_segment, good_step}
 use Rattle.vc_stream_laws.proofs.Jobs.{spoilt_step}
 use Rattle.vc_stream_laws.proofs.Waiting.{more_waits}
-use Rattle.vc_stream_laws.proofs.Quiet.{IsCallNext, call_next, call_good, empty_drops, effect_then, ordered_at}
+use Rattle.vc_stream_laws.proofs.Quiet.{call_next, call_good, empty_drops, effect_then, ordered_at}
 use Rattle.vc_laws.specs.Segments.{call_resets}
 use Rattle.vc_laws.specs.FirstFormats.{call_asks_format}
 use Rattle.vc_laws.specs.Taking.{call_drops}

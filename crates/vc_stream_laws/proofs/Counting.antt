@@ -1,14 +1,14 @@
 -- Each result of a segment was given by a finish without a fault.
-use Rattle.std.proofs.Common.{ℕ, ◌≡◌, ◌≤◌, ◌+◌, Bool, true, false, cond, Option, Some, None, List, [], ◌∷◌, ◌++◌, length, refl, sym, ap, ◌∙◌, subst, arith, length-append, append_assoc}
+use Rattle.std.proofs.Common.{ℕ, ◌≡◌, ◌≤◌, ◌+◌, Bool, true, false, cond, Option, Some, None, List, [], ◌∷◌, ◌++◌, length, refl, sym, ap, subst, arith, length-append, append_assoc}
 use Rattle.std.proofs.lemmas.List.{append-nil}
 use Rattle.vc_base.specs.declared.Stamp.{Stamp}
 use Rattle.vc_base.specs.declared.Fourcc.{Fourcc}
-use Rattle.vc_defs.specs.Decoder.{FrameResult, DecodedStep, moved_result}
+use Rattle.vc_defs.specs.Decoder.{FrameResult, moved_result}
 use Rattle.vc_model.specs.Coder.{the_coder}
 use Rattle.vc_model.specs.Context.{Context, Slot, Running}
 use Rattle.vc_model.specs.Runs.{job_data, RunResult, copied, encoded, decoded, run_result}
-use Rattle.vc_model.specs.Solo.{SoloEvent, Called, Claims, Finishes, SoloReply, solo_step, solo_finish, finish_step}
-use Rattle.vc_laws.specs.Segments.{Segment, SegmentResult, fresh_segment, resets, sources_added, with_result, after_run, after_job, after_event, segment_of_step, segment_of_slots, segment_step, segment_of}
+use Rattle.vc_model.specs.Solo.{SoloEvent, Called, Claims, Finishes, SoloReply, solo_step, solo_finish}
+use Rattle.vc_laws.specs.Segments.{Segment, SegmentResult, fresh_segment, resets, sources_added, with_result, after_run, after_job, after_event, segment_of_slots, segment_step, segment_of}
 use Rattle.vc_laws.proofs.Segmenting.{segment_more}
 use Rattle.vc_model.specs.Drains.{done_now}
 use Rattle.vc_port.specs.Payloads.{slot_after, good_finishes}

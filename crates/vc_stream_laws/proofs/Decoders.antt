@@ -1,11 +1,11 @@
 -- What keeps the context of a stream as its client knows it.
-use Rattle.std.proofs.Common.{ℕ, ◌≡◌, Bool, true, false, not, cond, ◌&&◌, ◌||◌, is_none, Option, Some, None, List, [], ◌∷◌, ◌++◌, refl, sym, ap, ◌∙◌, subst, ◌⊎◌, inl, inr, ⊎_elim}
+use Rattle.std.proofs.Common.{ℕ, ◌≡◌, Bool, true, false, not, cond, ◌&&◌, ◌||◌, is_none, Option, Some, None, List, [], ◌∷◌, ◌++◌, refl, sym, ap, ◌∙◌, ◌⊎◌, inl, inr}
 use Rattle.std.proofs.lemmas.Bool.{false≢true}
 use Rattle.std.proofs.lemmas.List.Folds.{list_any-append}
 use Rattle.vc_base.specs.declared.Stamp.{Stamp}
-use Rattle.vc_base.specs.Buffers.{Buffer, QueueState, known_bytes}
+use Rattle.vc_base.specs.Buffers.{Buffer, QueueState}
 use Rattle.vc_model.specs.Coder.{CodecState}
-use Rattle.vc_model.specs.Context.{Context, Slot, Running, Cause, drain, change, PhaseState, run, owe, last, stopped, is_run, is_stopped, is_drained}
+use Rattle.vc_model.specs.Context.{Context, Cause, drain, change, PhaseState, run, owe, last, stopped, is_run, is_stopped, is_drained}
 use Rattle.vc_model.specs.Answer.{is_stopped_by_drain}
 use Rattle.vc_model.specs.Phases.{is_over, is_last_by_drain}
 use Rattle.vc_model.specs.Places.{has_error}

@@ -1,9 +1,9 @@
 -- What was handed out of a stream, on the way and at its end.
-use Rattle.std.proofs.Common.{ℕ, ◌≡◌, ◌≤◌, ◌+◌, ◌==◌, Bool, true, false, not, cond, ◌&&◌, ◌||◌, Option, Some, None, List, [], ◌∷◌, ◌++◌, length, map, drop, take, refl, sym, ap, ◌∙◌, subst, arith, append_assoc, length-append, ◌⊎◌, inl, inr, ⊎_elim}
+use Rattle.std.proofs.Common.{ℕ, ◌≡◌, ◌≤◌, ◌==◌, Bool, true, false, not, cond, ◌||◌, Option, Some, None, List, [], ◌∷◌, ◌++◌, length, map, refl, sym, ap, ◌∙◌, arith, append_assoc, inl, inr, ⊎_elim}
 use Rattle.std.specs.List.{filter, list_any, flat_map, All}
 use mathlib.Core.List.{IsPrefix}
 use Rattle.std.proofs.lemmas.Bool.{false≢true, eqb-true}
-use Rattle.std.proofs.lemmas.List.{append-nil, map-append, take-append-drop}
+use Rattle.std.proofs.lemmas.List.{append-nil, map-append}
 use Rattle.std.proofs.lemmas.List.Elements.{All-head, All-tail}
 use Rattle.std.proofs.lemmas.Grind.{flat_map-append}
 use Rattle.vc_base.specs.declared.Kind.TheVariants.{Dec}
@@ -22,19 +22,17 @@ use Rattle.vc_model.specs.Phases.{is_over}
 use Rattle.vc_model.specs.Places.{has_error}
 use Rattle.vc_model.specs.Runs.{type_flag}
 use Rattle.vc_model.specs.Solo.{SoloEvent, Called, Answered, solo_step}
-use Rattle.vc_laws.specs.Segments.{SegmentResult, Segment, segment_of, whats}
-use Rattle.vc_laws.specs.Following.{is_no_change, HasFlags, HoldsKind, IsBufferOf, OneForOne, in_buffers, is_by_run, by_runs}
+use Rattle.vc_laws.specs.Segments.{SegmentResult, segment_of, whats}
+use Rattle.vc_laws.specs.Following.{is_no_change, HasFlags, HoldsKind, OneForOne, in_buffers, is_by_run, by_runs}
 use Rattle.vc_laws.specs.FirstFormats.{IsInFirst}
 use Rattle.vc_laws.specs.Taking.{bytes_of, bytes_of_kind, bytes_of_result}
 use Rattle.vc_laws.proofs.Decoding.{decoding}
 use Rattle.vc_laws.proofs.FirstFormats.{pictures_are_in_first}
 use Rattle.vc_laws.proofs.Handing.{pictures_are_handed_out}
 use Rattle.vc_laws.proofs.Outcomes.{retired_are_results, segments_begin, follows}
-use Rattle.vc_queue.specs.Holds.{HoldState}
-use Rattle.vc_port.specs.Payloads.{slot_after, bytes_out, good_finishes, IsCallOn}
-use Rattle.vc_stream_laws.specs.Streams.{StreamSoFar, has_failed, rest_of, BeginsUnknown, IsGood, IsUnspoilt, IsDecoded}
-use Rattle.vc_stream_laws.specs.Laws.{HandsFrontOut, FrontIsHandedOut, DrainIsOver, NoResultsNoOutput}
-use Rattle.vc_stream_laws.proofs.Decoders.{failed_append}
+use Rattle.vc_port.specs.Payloads.{slot_after, bytes_out, good_finishes}
+use Rattle.vc_stream_laws.specs.Streams.{StreamSoFar, has_failed, rest_of, BeginsUnknown, IsGood, IsDecoded}
+use Rattle.vc_stream_laws.specs.Laws.{FrontIsHandedOut, DrainIsOver, NoResultsNoOutput}
 use Rattle.vc_stream_laws.proofs.Events.{slot_both, bytes_both, good_both, bytes_more, finishes_more}
 use Rattle.vc_stream_laws.proofs.Goings.{none_begins}
 use Rattle.vc_stream_laws.proofs.Jobs.{halted_jobs}

@@ -1,39 +1,37 @@
 -- How a stream without a fault goes on by one event.
-use Rattle.std.proofs.Common.{ℕ, ◌≡◌, ◌+◌, Bool, true, false, not, cond, ◌&&◌, ◌||◌, Option, Some, None, List, [], ◌∷◌, ◌++◌, map, refl, sym, ap, ◌∙◌, subst, arith, append_assoc, ⊎_elim, inl, inr, ◌⊎◌}
+use Rattle.std.proofs.Common.{ℕ, ◌≡◌, Bool, true, false, cond, Option, Some, None, List, [], ◌∷◌, ◌++◌, map, refl, sym, ap, ◌∙◌, subst, arith, append_assoc, ⊎_elim, inl, inr}
 use Rattle.std.proofs.lemmas.Bool.{false≢true}
 use Rattle.std.proofs.lemmas.List.{append-nil}
-use Rattle.std.proofs.lemmas.Grind.{flat_map-append}
 use Rattle.vc_base.specs.declared.Kind.TheVariants.{Dec}
 use Rattle.vc_base.specs.Buffers.{Buffer}
 use Rattle.vc_defs.specs.declared.Geometry.{Geometry}
 use Rattle.vc_defs.specs.Headers.{most_bytes}
-use Rattle.vc_defs.specs.Decoder.{FrameResult, results, given_in}
+use Rattle.vc_defs.specs.Decoder.{results, given_in}
 use Rattle.vc_defs.specs.Places.{places, look}
 use Rattle.vc_defs.specs.Outputs.{input_results}
 use Rattle.vc_model.specs.Coder.{the_coder}
-use Rattle.vc_model.specs.Context.{Context, Slot, Running, PhaseState, drain, stopped, is_drained}
+use Rattle.vc_model.specs.Context.{Context, Slot, Running, is_drained}
 use Rattle.vc_model.specs.Answer.{is_stopped_by_drain}
 use Rattle.vc_model.specs.Drains.{is_last_by_drain, gives_last, takes_capture, done_now}
 use Rattle.vc_model.specs.Handed.{is_finish_by, handed_by}
 use Rattle.vc_model.specs.Phases.{is_over}
-use Rattle.vc_model.specs.Places.{is_honest, AreHonest}
+use Rattle.vc_model.specs.Places.{is_honest}
 use Rattle.vc_model.specs.Runs.{job_data, RunResult, copied, encoded, decoded, run_result}
 use Rattle.vc_model.specs.Solo.{SoloEvent, Called, Claims, Finishes, SoloReply, solo_step}
 use Rattle.vc_model.specs.Sound.{CountsUp, IsOrdered, IsOrderedSlot}
-use Rattle.vc_model.proofs.Ending.{always_ordered, step_sound}
+use Rattle.vc_model.proofs.Ending.{always_ordered}
 use Rattle.vc_model.proofs.Firm.{idle}
 use Rattle.vc_model.proofs.Tests.{and_left}
 use Rattle.vc_laws.specs.Segments.{Segment, fresh_segment, SegmentResult, resets, sources_added, after_run, after_job, after_event, segment_of_step, segment_step, segment_of, whats}
-use Rattle.vc_laws.specs.Drains.{before_mark, bytes_before}
 use Rattle.vc_laws.specs.FirstFormats.{asks_format}
-use Rattle.vc_laws.specs.Taking.{drops, front_taken, bytes_of}
+use Rattle.vc_laws.specs.Taking.{drops, front_taken}
 use Rattle.vc_laws.proofs.Decoding.{decoding}
 use Rattle.vc_laws.proofs.Outcomes.{drains_give_all, segments_begin}
 use Rattle.vc_laws.proofs.Segmenting.{segment_more, open_step}
 use Rattle.vc_laws.proofs.Taking.{taken_in_order}
 use Rattle.vc_laws.proofs.Wholes.{drain_stops, drained_before, end_drained}
-use Rattle.vc_port.specs.Payloads.{slot_after, told_at, bytes_out}
-use Rattle.vc_stream_laws.specs.Streams.{StreamSoFar, faulty_finishes, has_failed, IsDraining, IsDecoder, BeginsUnknown, IsWaiting, IsTaken, IsGood}
+use Rattle.vc_port.specs.Payloads.{slot_after}
+use Rattle.vc_stream_laws.specs.Streams.{StreamSoFar, IsDraining, IsDecoder, BeginsUnknown, IsWaiting, IsTaken, IsGood}
 use Rattle.vc_stream_laws.proofs.Decoders.{over_cases}
 use Rattle.vc_stream_laws.proofs.Waiting.{none_before, none_waits}
 use Rattle.vc_stream_laws.proofs.Events.{slot_more, bytes_more, count_of, counts_none, finishes_more, client_more}

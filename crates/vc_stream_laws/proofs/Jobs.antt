@@ -1,5 +1,5 @@
 -- Claims and finishes keep a stream.
-use Rattle.std.proofs.Common.{ℕ, ◌≡◌, ◌+◌, ◌<◌, Bool, true, false, cond, ◌&&◌, Option, Some, None, List, [], ◌∷◌, ◌++◌, refl, sym, ap, ◌∙◌, subst, arith, append_assoc, ◌⊎◌, inl, inr, ⊎_elim}
+use Rattle.std.proofs.Common.{ℕ, ◌≡◌, true, false, Option, Some, None, List, [], ◌∷◌, ◌++◌, refl, sym, ap, ◌∙◌, subst, arith, append_assoc, ◌⊎◌, inl, inr, ⊎_elim}
 use Rattle.std.proofs.lemmas.Bool.{false≢true}
 use Rattle.std.proofs.lemmas.List.{append-nil}
 use Rattle.vc_base.specs.Buffers.{Buffer, QueueState, lend_front}
@@ -17,17 +17,16 @@ use Rattle.vc_model.proofs.Ending.{always_ordered}
 use Rattle.vc_model.proofs.Tests.{and_left, and_right}
 use Rattle.vc_laws.specs.Segments.{Segment, resets, first_of, after_run, segment_of_step, segment_of, whats}
 use Rattle.vc_laws.specs.FirstFormats.{asks_format}
-use Rattle.vc_laws.specs.Taking.{drops, bytes_of}
+use Rattle.vc_laws.specs.Taking.{drops}
 use Rattle.vc_laws.proofs.Effects.{Settles}
 use Rattle.vc_laws.proofs.Steps.{HasJob, Ends, alone, kept, ended, halts, spends, ClaimsCap, probes, runs, Step, calls, rests, lacks_job, claims, finishes, faults, step_of}
 use Rattle.vc_laws.proofs.Tidy.{IsTidy, IsRunOf, HasRun, always_tidy}
 use Rattle.vc_laws.proofs.Segmenting.{finished_segment, nothing_segment}
-use Rattle.vc_laws.specs.Drains.{is_done}
 use Rattle.vc_model.specs.Drains.{done_now}
 use Rattle.vc_port.specs.Payloads.{slot_after, is_of_job, AreOfJobs}
-use Rattle.vc_stream_laws.specs.Streams.{StreamSoFar, some_stop, has_failed, rest_of, IsWaiting, IsKnown, IsDecoder, BeginsUnknown, IsGood, IsSpoilt, IsStream}
+use Rattle.vc_stream_laws.specs.Streams.{StreamSoFar, some_stop, has_failed, rest_of, IsWaiting, IsKnown, IsDecoder, BeginsUnknown, IsGood, IsSpoilt}
 use Rattle.vc_stream_laws.specs.Laws.{JobsKeep}
-use Rattle.vc_stream_laws.proofs.Decoders.{run_not_stopped, stopped_by, stopped_is_over, IsAlong, along_both, decoder_on, settled_along, settled_out, settled_geometry, settled_stopped, ended_along, ended_stopped, ended_good, fault_failed, ended_failed}
+use Rattle.vc_stream_laws.proofs.Decoders.{run_not_stopped, stopped_by, stopped_is_over, along_both, decoder_on, settled_along, settled_out, settled_geometry, settled_stopped, ended_along, ended_stopped, ended_good, fault_failed, ended_failed}
 use Rattle.vc_stream_laws.proofs.Events.{slot_more, count_of, counts_one, finishes_more}
 use Rattle.vc_stream_laws.proofs.Goings.{IsNext, quiet_step}
 use Rattle.vc_stream_laws.proofs.Waiting.{run_waits}

@@ -1,5 +1,5 @@
 -- What the calls that open a decoder do, up to the beginning of its stream.
-use Rattle.std.proofs.Common.{ℕ, min, ◌≡◌, ◌≢◌, ◌+◌, Bool, true, false, not, cond, ◌&&◌, ◌||◌, is_none, Option, Some, None, List, [], ◌∷◌, ◌++◌, refl, sym, ap, ◌∙◌, subst, arith, append_assoc, ◌⊎◌, inl, inr, ⊎_elim}
+use Rattle.std.proofs.Common.{ℕ, min, ◌≡◌, ◌≢◌, Bool, true, false, ◌&&◌, ◌||◌, is_none, Option, Some, None, List, [], ◌∷◌, ◌++◌, refl, sym, ap, ◌∙◌, subst, arith, append_assoc, inl, ⊎_elim}
 use Rattle.std.specs.List.{filter, flat_map}
 use Rattle.std.specs.Prelude.{nat_le}
 use Rattle.std.proofs.lemmas.Bool.{false≢true}
@@ -15,30 +15,28 @@ use Rattle.vc_base.specs.declared.Reply.{Reply}
 use Rattle.vc_base.specs.declared.Reply.TheVariants.{Done, Fmt, Count, Blocked}
 use Rattle.vc_base.specs.Buffers.{Buffer, most_buffers, reqbufs_after, streamon_refusal, streamon_after}
 use Rattle.vc_base.specs.Events.{EventState}
-use Rattle.vc_defs.specs.declared.Geometry.{Geometry}
 use Rattle.vc_defs.specs.declared.Layout.TheVariants.{C420, C422}
 use Rattle.vc_defs.specs.Headers.{most_bytes}
 use Rattle.vc_model.specs.Formats.{width_for, height_for, frame_room, clamp, size_or, formats_for}
-use Rattle.vc_model.specs.Coder.{CodecState, the_coder}
-use Rattle.vc_model.specs.Context.{Context, Slot, Running, Cause, drain, owe, run, fresh_context, format_of, is_dec, is_enc, is_run, is_drained, with_queue, sizeimage, settle}
+use Rattle.vc_model.specs.Coder.{the_coder}
+use Rattle.vc_model.specs.Context.{Context, Slot, drain, owe, run, fresh_context, format_of, is_dec, is_enc, is_run, is_drained, with_queue, sizeimage, settle}
 use Rattle.vc_model.specs.Answer.{Answer, answered, unless, set_refusal, after_new_format, is_stopped_by_drain, answer, closed_answer, context_answer}
 use Rattle.vc_model.specs.Drains.{done_now}
 use Rattle.vc_model.specs.Handed.{is_finish_by, handed_by}
 use Rattle.vc_model.specs.Phases.{is_over}
 use Rattle.vc_model.specs.Places.{is_honest}
-use Rattle.vc_model.specs.Solo.{SoloEvent, Called, Claims, Finishes, SoloReply, Answered, Claimed, Nothing, solo_step}
-use Rattle.vc_model.specs.Sound.{drain_not_noted, IsOrdered}
+use Rattle.vc_model.specs.Solo.{SoloEvent, Called, Claims, Finishes, SoloReply, Answered, Nothing, solo_step}
+use Rattle.vc_model.specs.Sound.{drain_not_noted}
 use Rattle.vc_model.proofs.Tests.{and_left, and_right}
-use Rattle.vc_laws.specs.Segments.{Segment, fresh_segment, resets, sources_added, after_event, segment_of_step, segment_step, segment_of, call_resets}
+use Rattle.vc_laws.specs.Segments.{Segment, fresh_segment, resets, sources_added, after_event, segment_of_step, segment_step, segment_of}
 use Rattle.vc_laws.specs.FirstFormats.{asks_format}
 use Rattle.vc_laws.proofs.Effects.{CodecAfterBuffers, Settles, still, owes, gives, settle_is, Effect, stays, has_events, has_out_buffers, sets_mark, starts}
 use Rattle.vc_laws.proofs.Steps.{Step, calls, rests, lacks_job, claims, finishes, faults, step_of}
 use Rattle.vc_laws.proofs.Segmenting.{segment_more, open_step, begins_anew, nothing_segment}
-use Rattle.vc_laws.specs.Taking.{bytes_of}
 use Rattle.vc_queue.specs.Holds.{HoldState}
 use Rattle.vc_context.specs.Payloads.{handed_over}
 use Rattle.vc_port.specs.Payloads.{slot_after, bytes_out, is_of_job, AreOfJobs, with_call, IsCallOn}
-use Rattle.vc_stream_laws.specs.Streams.{stream_at_start, faulty_finishes, has_failed, rest_of, BeginsUnknown, IsPlainClient, IsGood, IsStream, IsIdle, IsFresh, IsOpened}
+use Rattle.vc_stream_laws.specs.Streams.{stream_at_start, faulty_finishes, has_failed, rest_of, BeginsUnknown, IsPlainClient, IsGood, IsIdle, IsFresh, IsOpened}
 use Rattle.vc_stream_laws.specs.Laws.{Opens, SubscribesOpened, LimitsOpened, BuffersOpened, StreamBegins}
 use Rattle.vc_stream_laws.proofs.Events.{slot_both, slot_more, bytes_more, count_of, counts_none, finishes_more, client_more}
 use Rattle.vc_stream_laws.proofs.Goings.{grown_segment}

@@ -1,15 +1,13 @@
 -- Calls that leave a stream as it is, by what they do to the context.
-use Rattle.std.proofs.Common.{ℕ, min, ◌≡◌, ◌+◌, Bool, true, false, not, cond, ◌&&◌, ◌||◌, Option, Some, None, List, [], ◌∷◌, ◌++◌, refl, sym, ap, ◌∙◌, subst, ◌⊎◌, inl, inr}
+use Rattle.std.proofs.Common.{ℕ, min, ◌≡◌, Bool, true, false, not, ◌||◌, Some, None, List, [], ◌∷◌, ◌++◌, refl, sym, ap, ◌∙◌, subst}
 use Rattle.std.proofs.lemmas.Bool.{false≢true}
-use Rattle.std.proofs.lemmas.List.{append-nil}
 use Rattle.vc_base.specs.declared.Side.TheVariants.{Out, Cap}
-use Rattle.vc_base.specs.declared.Stamp.{Stamp}
 use Rattle.vc_base.specs.declared.Call.{Call}
-use Rattle.vc_base.specs.declared.Call.TheVariants.{Close, SetFmt, ReqBufs, QBuf, DqBuf, StreamOff, DecCmd, EncCmd}
+use Rattle.vc_base.specs.declared.Call.TheVariants.{Close, ReqBufs, QBuf, DqBuf, StreamOff, DecCmd, EncCmd}
 use Rattle.vc_base.specs.declared.Reply.{Reply}
 use Rattle.vc_base.specs.declared.Reply.TheVariants.{Done, Count, Taken, Refused}
 use Rattle.vc_base.specs.declared.Errno.TheVariants.{Busy}
-use Rattle.vc_base.specs.Buffers.{refuse_if, most_buffers, Buffer, QueueState, queue_held, is_empty, take_front, reqbufs_refusal, reqbufs_after, streamon_after}
+use Rattle.vc_base.specs.Buffers.{refuse_if, most_buffers, Buffer, QueueState, queue_held, is_empty, take_front, reqbufs_after, streamon_after}
 use Rattle.vc_model.specs.Coder.{the_coder}
 use Rattle.vc_model.specs.Context.{Context, Slot, with_queue, sizeimage}
 use Rattle.vc_model.specs.Answer.{is_stopped_by_drain, answer, context_answer, unless, if_found, answered, after_new_buffers}
@@ -20,10 +18,10 @@ use Rattle.vc_model.specs.Places.{has_error, is_honest_call}
 use Rattle.vc_model.specs.Solo.{SoloEvent, Called, Answered, solo_step}
 use Rattle.vc_model.specs.Sound.{IsOrdered, IsOrderedSlot}
 use Rattle.vc_model.proofs.Ending.{always_ordered}
-use Rattle.vc_laws.specs.Segments.{Segment, call_resets, call_adds, segment_of_step, segment_of, whats}
+use Rattle.vc_laws.specs.Segments.{Segment, call_resets, call_adds, segment_of, whats}
 use Rattle.vc_laws.specs.FirstFormats.{call_asks_format}
 use Rattle.vc_laws.specs.Drains.{is_stop_call}
-use Rattle.vc_laws.specs.Taking.{call_drops, bytes_of}
+use Rattle.vc_laws.specs.Taking.{call_drops}
 use Rattle.vc_laws.proofs.Effects.{is_command, Settles, Effect, effect_of, stays, closes, has_events, has_rates, has_out_format, has_cap_format, has_out_buffers, has_cap_buffers, adds_out, adds_cap, queues_out, queues_cap, takes_out, takes_cap, takes_last, streams_out, streams_cap, stops_out, stops_cap, rests_cap, sets_mark, starts}
 use Rattle.vc_laws.proofs.Segmenting.{goes_on}
 use Rattle.vc_port.specs.Payloads.{slot_after}
