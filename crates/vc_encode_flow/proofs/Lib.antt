@@ -8,9 +8,11 @@ pub mod Ending
 pub mod Events
 pub mod Filling
 pub mod Frames
+pub mod Generated
 pub mod Going
 pub mod Pictures
 pub mod Setting
+pub mod Shared
 pub mod Stopping
 pub mod Taken
 pub mod Whole

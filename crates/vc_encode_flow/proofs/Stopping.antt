@@ -52,7 +52,7 @@ stopped_at start f first written old new a h =
     let front = front_of_flow start f old a.flow in
     record { bytes = joined f.taken; wrote = a.wrote; handed = h (joined f.taken) (handed_of_flow start f old a.flow); others = front.0; frames = front.1 }
 
-joined_more : (xs : List (List ℕ)) (x : List ℕ) → joined (xs ++ x ∷ []) ≡ joined xs ++ x
+pub joined_more : (xs : List (List ℕ)) (x : List ℕ) → joined (xs ++ x ∷ []) ≡ joined xs ++ x
 joined_more xs x = joined_append xs (x ∷ []) ∙ ap (λ (l : List ℕ). joined xs ++ l) (append-nil x)
 
 -- a frame was taken and written

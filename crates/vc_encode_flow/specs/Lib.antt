@@ -1,4 +1,6 @@
 pub mod Endings
 pub mod Flows
 pub mod Frames
+pub mod Shares
 pub mod Steps
+pub mod Tallies

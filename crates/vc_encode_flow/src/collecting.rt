@@ -24,9 +24,9 @@ const ERROR: u32 = 0x40;
 
 /// A CAPTURE buffer that was taken, and how many of its bytes are used.
 #[derive(Clone, Copy, Debug)]
-struct Frame {
-    index: u32,
-    used: u32,
+pub(crate) struct Frame {
+    pub index: u32,
+    pub used: u32,
 }
 
 /// Whether the flags have ERROR.
@@ -37,7 +37,7 @@ fn is_failed(flags: u32) -> bool
 }
 
 /// Waits for a frame and takes it.
-fn take_frame<R: Wait, P: PayloadPort>(rt: &R, port: &mut P) -> Result<Frame, Stop>
+pub(crate) fn take_frame<R: Wait, P: PayloadPort>(rt: &R, port: &mut P) -> Result<Frame, Stop>
     requires ready { P.ready port.old }
     ensures ready { P.ready port.new }
     ensures follows { P.follows port.old port.new }

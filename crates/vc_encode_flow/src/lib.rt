@@ -1,7 +1,7 @@
 //! Raw pictures through one encoder of the device, over any port.
 //!
-//! The flow opens the port's slot as an encoder, feeds it the pictures of a source, and writes the frames that
-//! the slot hands out to a sink.
+//! `encode_on` opens the port's slot as an encoder, feeds it the pictures of a source, and writes the frames that
+//! the slot hands out to a sink. `share_on` feeds it pictures of the generator, and counts and folds the frames' bytes.
 #![tactic(auto)]
 
 mod closing;
@@ -10,6 +10,10 @@ mod ends;
 mod feeding;
 mod flowing;
 mod opening;
+mod sharing;
+mod tallying;
 
 pub use ends::FlowEnd;
 pub use flowing::encode_on;
+pub use sharing::share_on;
+pub use tallying::Tally;

@@ -4,6 +4,7 @@ ghost use Rattle.std.specs.Prelude.{◌≡◌, ◌≢◌, ◌<◌, ℕ, List, []
 ghost use Rattle.vc_base.specs.declared.Kind.TheVariants.{Enc};
 ghost use Rattle.vc_defs.specs.Encoder.{RunRates};
 ghost use Rattle.vc_defs.specs.Laws.{AreRates};
+ghost use Rattle.vc_defs.specs.Outputs.{default_rates};
 ghost use Rattle.vc_model.specs.Answer.{with_control};
 ghost use Rattle.vc_model.specs.Solo.{SoloEvent};
 ghost use Rattle.vc_port.specs.Payloads.{slot_after};
@@ -193,5 +194,21 @@ pub(crate) fn open_encoder<P: PayloadPort>(
     open_slot(port)?;
     set_format(port, format)?;
     set_rates(port, rates)?;
+    start(port)
+}
+
+/// Opens the slot as an encoder of pictures of the format, at the rates that an encoder begins with. Both its queues
+/// stream, and its CAPTURE buffers are queued.
+pub(crate) fn open_fresh_encoder<P: PayloadPort>(port: &mut P, format: &Format) -> Result<(), Stop>
+    requires ready { P.ready port.old }
+    requires closed { slot_after (P.events port.old) ≡ None }
+    requires kept { IsKept format.now }
+    ensures ready { P.ready port.new }
+    ensures follows { P.follows port.old port.new }
+    ensures flow { OnOk result (IsFlow (P.events port.old) (flow_of format.now default_rates) (P.events port.new)) }
+    ensures memory { IfErr result (λ stop. stop ≡ Stop.NoMemory) }
+{
+    open_slot(port)?;
+    set_format(port, format)?;
     start(port)
 }

@@ -1,0 +1,5 @@
+use Rattle.vc_encode_flow.proofs.Shared.{none_tallied}
+use Rattle.vc_encode_flow.proofs.tallying.Tally.none.Goals as goal
+
+pub returns : goal.returns
+returns c = none_tallied
