@@ -28,7 +28,13 @@ fn clamp(z: i32) -> i32
     ensures least { pos 0 ≤ℤ result }
     ensures most { result ≤ℤ pos 255 }
 {
-    z.max(0).min(255)
+    if z < 0 {
+        0
+    } else if z > 255 {
+        255
+    } else {
+        z
+    }
 }
 
 /// The sample of an entry of the inverse transform.

@@ -55,7 +55,11 @@ fn distance_to_block(block: &[u8; 64], other: &[u8; 64]) -> u32
 fn distance_to_number(block: &[u8; 64], other: u8) -> u32
     ensures { result ≡ distance block.now (λ _. other) }
 {
-    distance_to_block(block, &[other; 64])
+    let mut sum = 0;
+    for k in 0..64 {
+        sum += gap(block[k], other);
+    }
+    sum
 }
 
 /// Whether a block is nearer to the reference than to its own mean.

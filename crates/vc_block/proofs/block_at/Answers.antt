@@ -11,8 +11,8 @@ from_corner plane block width height number left top l t is =
 
 pub returns-then-top-height : goal.returns-then-top-height
 returns-then-top-height c =
-    from_corner c.args.plane.now c.copy_inner_block.new.block c.args.width c.args.height c.args.number c.corner_of-left.result.left c.corner_of-left.result.top c.corner_of-left.ensures.left c.corner_of-left.ensures.top c.copy_inner_block.ensures
+    from_corner c.args.plane.now c.inner_block.result c.args.width c.args.height c.args.number c.corner_of-left.result.left c.corner_of-left.result.top c.corner_of-left.ensures.left c.corner_of-left.ensures.top c.inner_block.ensures
 
 pub returns-else-left-width : goal.returns-else-left-width
 returns-else-left-width c =
-    from_corner c.args.plane.now c.copy_edge_block.new.block c.args.width c.args.height c.args.number c.corner_of-left.result.left c.corner_of-left.result.top c.corner_of-left.ensures.left c.corner_of-left.ensures.top c.copy_edge_block.ensures
+    from_corner c.args.plane.now c.edge_block.result c.args.width c.args.height c.args.number c.corner_of-left.result.left c.corner_of-left.result.top c.corner_of-left.ensures.left c.corner_of-left.ensures.top c.edge_block.ensures
