@@ -1,4 +1,6 @@
 ghost use Rattle.std.specs.Prelude.{◌≡◌};
+ghost use Rattle.std.specs.Io.KnownBytes.{Keeps};
+ghost use Rattle.vc_base.specs.Counts.{HasCause};
 
 use crate::{ReadFailed, Sink, Source, WriteFailed};
 use std::io::{Read, Write};
@@ -53,6 +55,19 @@ impl<O: Write> StdSink<O> {
         ensures faults { ⟦<StdSink<O> as Sink>⟧.faults result ≡ 0 }
     {
         StdSink { output, faults: 0 }
+    }
+
+    /// Hands on what the writer keeps back, as a buffered one does. Where the writer fails, the sink counts a fault, and
+    /// what was not handed on is kept.
+    pub fn flush(&mut self) -> Result<(), WriteFailed>
+        ensures written { Keeps (⟦<StdSink<O> as Sink>⟧.written self.old) (⟦<StdSink<O> as Sink>⟧.written self.new) }
+        ensures cause { HasCause (⟦<StdSink<O> as Sink>⟧.faults self.old) (⟦<StdSink<O> as Sink>⟧.faults self.new) result }
+    {
+        if self.output.flush().is_err() {
+            self.faults = self.faults.saturating_add(1);
+            return Err(WriteFailed);
+        }
+        Ok(())
     }
 }
 

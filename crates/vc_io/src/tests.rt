@@ -33,4 +33,5 @@ fn readers_and_writers_are_adapted(rt: HostRuntime) {
     let mut sink = StdSink::new(Cursor::new([0u8; 2]));
     assert!(rt; write_whole(&mut sink, b"ab").is_ok());
     assert!(rt; write_whole(&mut sink, b"c").is_err());
+    assert!(rt; sink.flush().is_ok());
 }
