@@ -13,3 +13,6 @@ mod Transitions
 mod Whole
 mod OwnLines
 mod Reading
+mod Encoding
+mod FlowEnds
+mod Kept

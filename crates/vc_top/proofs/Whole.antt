@@ -6,7 +6,7 @@ use Rattle.std.proofs.lemmas.List.{append-nil}
 use Rattle.vc_base.specs.Counts.{Rose}
 use Rattle.vc_model.specs.Script.{Asked}
 use Rattle.vc_top.specs.declared.status.Status.{Status}
-use Rattle.vc_top.specs.declared.status.Status.TheVariants.{Fine, Usage, ReadFault, WriteFault, BadLine, EngineFault, TooLong, NoMemory}
+use Rattle.vc_top.specs.declared.status.Status.TheVariants.{Fine, Usage, ReadFault, WriteFault, BadLine, Damaged, ShortRaw, EngineFault, TooLong, NoMemory}
 use Rattle.vc_top.specs.declared.input.ReadStop.TheVariants as reads
 use Rattle.vc_top.specs.Asking.{asks_line, asks_lines, with_rest}
 use Rattle.vc_top.specs.Carries.{RoseBy}
@@ -32,6 +32,8 @@ of_lines slots input left old new before now NoMemory end short lines_end =
 of_lines slots input left old new before now Usage end short lines_end = absurd lines_end
 of_lines slots input left old new before now ReadFault end short lines_end = absurd lines_end
 of_lines slots input left old new before now TooLong end short lines_end = absurd lines_end
+of_lines slots input left old new before now Damaged end short lines_end = absurd lines_end
+of_lines slots input left old new before now ShortRaw end short lines_end = absurd lines_end
 
 pub script_read : (slots : ℕ) (had left old new : Option (List ℕ)) (script : List ℕ) (before now : EngineCounts) (status : Status) → WasRead had left script → LinesEnd slots (lines script) old new before now status → IfSome had (λ input. ScriptEnds slots input left old new before now status)
 script_read slots None left old new script before now status read lines_end = tt
@@ -68,6 +70,8 @@ engine_cause slots ls old new before now WriteFault e is = absurd (cc)
 engine_cause slots ls old new before now (BadLine n) e is = absurd (cc)
 engine_cause slots ls old new before now TooLong e is = absurd (cc)
 engine_cause slots ls old new before now NoMemory e is = absurd (cc)
+engine_cause slots ls old new before now Damaged e is = absurd (cc)
+engine_cause slots ls old new before now ShortRaw e is = absurd (cc)
 
 pub never_usage : (slots : ℕ) (ls : List (List ℕ)) (old new : Option (List ℕ)) (before now : EngineCounts) (status : Status) → LinesEnd slots ls old new before now status → status ≡ Usage → ⊥
 never_usage slots ls old new before now EngineFault e is = cc
@@ -78,6 +82,8 @@ never_usage slots ls old new before now WriteFault e is = cc
 never_usage slots ls old new before now (BadLine n) e is = cc
 never_usage slots ls old new before now TooLong e is = e
 never_usage slots ls old new before now NoMemory e is = cc
+never_usage slots ls old new before now Damaged e is = e
+never_usage slots ls old new before now ShortRaw e is = e
 
 pub never_read : (slots : ℕ) (ls : List (List ℕ)) (old new : Option (List ℕ)) (before now : EngineCounts) (status : Status) → LinesEnd slots ls old new before now status → status ≡ ReadFault → ⊥
 never_read slots ls old new before now EngineFault e is = cc
@@ -88,6 +94,8 @@ never_read slots ls old new before now WriteFault e is = cc
 never_read slots ls old new before now (BadLine n) e is = cc
 never_read slots ls old new before now TooLong e is = e
 never_read slots ls old new before now NoMemory e is = cc
+never_read slots ls old new before now Damaged e is = e
+never_read slots ls old new before now ShortRaw e is = e
 
 -- Completeness
 
@@ -111,6 +119,8 @@ pub complete_end : (slots : ℕ) (input : List ℕ) (left old new : Option (List
 complete_end slots input left old new before now Fine r0 r1 s0 s1 e a b c good x y z = inl refl
 complete_end slots input left old new before now NoMemory r0 r1 s0 s1 e a b c good x y z = inr refl
 complete_end slots input left old new before now Usage r0 r1 s0 s1 e a b c good x y z = absurd e
+complete_end slots input left old new before now Damaged r0 r1 s0 s1 e a b c good x y z = absurd e
+complete_end slots input left old new before now ShortRaw r0 r1 s0 s1 e a b c good x y z = absurd e
 complete_end slots input left old new before now ReadFault r0 r1 s0 s1 e a b c good x y z = absurd (x (a refl))
 complete_end slots input left old new before now WriteFault r0 r1 s0 s1 e a b c good x y z = absurd (y (b refl))
 complete_end slots input left old new before now EngineFault r0 r1 s0 s1 e a b c good x y z = absurd (z (c refl))

@@ -9,7 +9,7 @@ use Rattle.vc_model.specs.Coder.{the_coder}
 use Rattle.vc_model.specs.Script.{Asked, Prints, events_of_script}
 use Rattle.vc_script.specs.Texts.{reply_text}
 use Rattle.vc_top.specs.declared.status.Status.{Status}
-use Rattle.vc_top.specs.declared.status.Status.TheVariants.{Fine, Usage, ReadFault, WriteFault, BadLine, EngineFault, TooLong, NoMemory}
+use Rattle.vc_top.specs.declared.status.Status.TheVariants.{Fine, Usage, ReadFault, WriteFault, BadLine, Damaged, ShortRaw, EngineFault, TooLong, NoMemory}
 use Rattle.vc_top.specs.Asking.{asks_line, asks_lines}
 use Rattle.vc_top.specs.Input.{longest_script}
 use Rattle.vc_top.specs.Carries.{finishes, IsCounted}
@@ -64,6 +64,8 @@ LinesEnd slots ls old new before now WriteFault = FrontWritten slots ls old new 
 LinesEnd slots ls old new before now NoMemory = FrontWritten slots ls old new before now
 LinesEnd slots ls old new before now Usage = ⊥
 LinesEnd slots ls old new before now ReadFault = ⊥
+LinesEnd slots ls old new before now Damaged = ⊥
+LinesEnd slots ls old new before now ShortRaw = ⊥
 LinesEnd slots ls old new before now TooLong = ⊥
 
 -- the whole input was read, it isn't too long, and its lines end so
@@ -90,6 +92,8 @@ ScriptEnds slots input left old new before now NoMemory =
 ScriptEnds slots input left old new before now ReadFault = ReadStopped input left × (new ≡ old)
 ScriptEnds slots input left old new before now TooLong = (longest_script < length input) × (new ≡ old)
 ScriptEnds slots input left old new before now Usage = ⊥
+ScriptEnds slots input left old new before now Damaged = ⊥
+ScriptEnds slots input left old new before now ShortRaw = ⊥
 
 -- a script that isn't too long, with every line in the grammar
 pub record IsGoodScript (slots : ℕ) (input : List ℕ) : Type 0 where

@@ -2,7 +2,10 @@ pub mod Asking
 pub mod Carries
 pub mod Desks
 pub mod Does
+pub mod Encodes
 pub mod Ends
+pub mod Engines
+pub mod Flows
 pub mod Input
 pub mod Makes
 pub mod Slots

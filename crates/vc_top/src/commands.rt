@@ -1,16 +1,22 @@
 //! The commands, over the words of the command line.
 
-ghost use Rattle.std.specs.Prelude.{◌≡◌, ◌≢◌, ◌<◌, ◌≤◌, ◌↔◌, ◌⊎◌, None, IfSome, map, string_bytes, vec_len, slice_get, drop};
+ghost use Rattle.std.specs.Prelude.{◌≡◌, ◌≢◌, ◌<◌, ◌≤◌, ◌↔◌, ◌⊎◌, None, IfSome, map, string_bytes, vec_len, slice_get, take, drop};
 ghost use Rattle.vc_base.specs.Counts.{Rose};
+ghost use Rattle.vc_crew.specs.Rising.{RoseTogether};
+ghost use Rattle.vc_top.specs.Encodes.{EncodeEnds, EncodeCompletes, frame_count};
 ghost use Rattle.vc_top.specs.Ends.{ScriptEnds, Completes};
+ghost use Rattle.vc_top.specs.Engines.{OneRose, engines_used};
 ghost use Rattle.vc_top.specs.Makes.{MakeEnds};
-ghost use Rattle.vc_top.specs.Words.{asked_command, OnScript, OnMake};
+ghost use Rattle.vc_top.specs.Words.{asked_command, OnScript, OnMake, OnEncode};
 ghost use Rattle.vc_words.specs.Ranges.{IsMake};
 
+use crate::encode::encode_run;
 use crate::input::{ReadStop, read_script};
 use crate::script::run_lines;
 use crate::status::Status;
 use std::alloc::Global;
+use std::sync::Wait;
+use std::thread::Threads;
 use vc_core::Engine;
 use vc_io::{Sink, Source};
 use vc_make::{MakeStop, write_pictures};
@@ -77,8 +83,10 @@ fn make_run<K: Sink>(alloc: Global, options: &MakeOptions, sink: &mut K) -> Stat
     }
 }
 
-/// Does all that the program does, on the words behind its name.
-pub fn top<S: Source, K: Sink>(
+/// Does all that the program does, on the words behind its name. It uses the first engines of the list, one for each
+/// worker, and leaves them in their order. It may wait for its workers.
+pub fn top<R: Threads + Wait + Sync, S: Source, K: Sink>(
+    rt: &R,
     alloc: Global,
     words: &[String],
     source: &mut S,
@@ -95,16 +103,21 @@ pub fn top<S: Source, K: Sink>(
     ensures make_reads_nothing { OnMake (asked_command (map (λ w. string_bytes w) words.now)) (λ _. (source.new ≡ source.old) × (engines.new ≡ engines.old)) }
     ensures read { result ≡ Status.ReadFault → Rose (S.faults source.old) (S.faults source.new) }
     ensures write { result ≡ Status.WriteFault → Rose (K.faults sink.old) (K.faults sink.new) }
-    ensures engine { result ≡ Status.EngineFault → IfSome (slice_get engines.old.items 0) (λ before. IfSome (slice_get engines.new.items 0) (λ now. Rose (⟦<Box<dyn Engine + Send> as Engine>⟧.fault_count before) (⟦<Box<dyn Engine + Send> as Engine>⟧.fault_count now))) }
+    ensures engine { OnScript (asked_command (map (λ w. string_bytes w) words.now)) (λ _. result ≡ Status.EngineFault → IfSome (slice_get engines.old.items 0) (λ before. IfSome (slice_get engines.new.items 0) (λ now. Rose (⟦<Box<dyn Engine + Send> as Engine>⟧.fault_count before) (⟦<Box<dyn Engine + Send> as Engine>⟧.fault_count now)))) }
     ensures complete { OnScript (asked_command (map (λ w. string_bytes w) words.now)) (λ slots. IfSome (S.left source.old) (λ input. IfSome (slice_get engines.old.items 0) (λ before. IfSome (slice_get engines.new.items 0) (λ now. Completes slots input (S.faults source.old) (S.faults source.new) (K.faults sink.old) (K.faults sink.new) (⟦<Box<dyn Engine + Send> as Engine>⟧.fault_count before) (⟦<Box<dyn Engine + Send> as Engine>⟧.fault_count now) result)))) }
     ensures make_completes { OnMake (asked_command (map (λ w. string_bytes w) words.now)) (λ _. (Rose (K.faults sink.old) (K.faults sink.new) → ⊥) → (result ≡ Status.Fine) ⊎ (result ≡ Status.NoMemory)) }
+    ensures encode { OnEncode (asked_command (map (λ w. string_bytes w) words.now)) (λ options. IfSome (S.left source.old) (λ input. EncodeEnds options input (S.left source.new) (K.written sink.old) (K.written sink.new) result)) }
+    ensures encode_runs { OnEncode (asked_command (map (λ w. string_bytes w) words.now)) (λ options. result ≡ Status.Fine → IfSome (S.left source.old) (λ input. RoseTogether (frame_count options input) (map (λ e. ⟦<Box<dyn Engine + Send> as Engine>⟧.run_count e) (take options.workers engines.old.items)) (map (λ e. ⟦<Box<dyn Engine + Send> as Engine>⟧.run_count e) (take options.workers engines.new.items)))) }
+    ensures encode_engine { OnEncode (asked_command (map (λ w. string_bytes w) words.now)) (λ options. result ≡ Status.EngineFault → OneRose (map (λ e. ⟦<Box<dyn Engine + Send> as Engine>⟧.fault_count e) (take options.workers engines.old.items)) (map (λ e. ⟦<Box<dyn Engine + Send> as Engine>⟧.fault_count e) (take options.workers engines.new.items))) }
+    ensures encode_completes { OnEncode (asked_command (map (λ w. string_bytes w) words.now)) (λ options. IfSome (S.left source.old) (λ input. EncodeCompletes options input (S.faults source.old) (S.faults source.new) (K.faults sink.old) (K.faults sink.new) (map (λ e. ⟦<Box<dyn Engine + Send> as Engine>⟧.fault_count e) (take options.workers engines.old.items)) (map (λ e. ⟦<Box<dyn Engine + Send> as Engine>⟧.fault_count e) (take options.workers engines.new.items)) result)) }
     ensures crew { vec_len engines.new ≡ 16 }
-    ensures others { drop 1 engines.new.items ≡ drop 1 engines.old.items }
+    ensures others { drop (engines_used (asked_command (map (λ w. string_bytes w) words.now))) engines.new.items ≡ drop (engines_used (asked_command (map (λ w. string_bytes w) words.now))) engines.old.items }
 {
     match read_words(words) {
         Some(Command::Script(options)) => {
             script_run(alloc, options.slots, source, sink, &mut engines[0])
         }
+        Some(Command::Encode(options)) => encode_run(rt, alloc, &options, source, sink, engines),
         Some(Command::Make(options)) => make_run(alloc, &options, sink),
         _ => Status::Usage,
     }

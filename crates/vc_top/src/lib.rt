@@ -1,10 +1,13 @@
 //! The commands of the program: `script` reads a script whole, carries out its lines on a device, and prints
-//! what they answer; `make` writes pictures of the generator. docs/FORMAT.md has the grammar and the texts.
+//! what they answer; `encode` codes raw pictures by workers; `make` writes pictures of the generator. docs/FORMAT.md has
+//! the grammar and the texts.
 #![tactic(auto)]
 
 mod carry;
 mod commands;
 mod desk;
+mod encode;
+mod flows;
 mod input;
 pub mod laws;
 mod script;

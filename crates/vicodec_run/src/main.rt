@@ -1,12 +1,17 @@
-//! The program: a stateful video codec device that is driven by a script on standard input.
+//! The program: a stateful video codec device, driven by a script on standard input, or by the commands for video files.
 #![tactic(auto)]
+
+ghost use Rattle.std.specs.Prelude.{◌≡◌, IfSome, vec_len};
 
 #[cfg(test)]
 mod tests;
 
 use std::alloc::Global;
+use std::io::BufWriter;
 use std::process::ExitCode;
 use std::rt::Env;
+use std::sync::Wait;
+use std::thread::Threads;
 use std::{env, io};
 use vc_core::Engine;
 use vc_engine::{FastEngine, PlainEngine};
@@ -16,6 +21,9 @@ use vc_top::{Status, top};
 
 /// How many engines are handed in: plain, fast and lane engines in turn.
 const ENGINES: u32 = 16;
+
+/// The bytes of output that are kept back before they are handed on.
+const OUTPUT_BUFFER: usize = 65_536;
 
 /// The words behind the program's name.
 fn words(rt: &(impl Env + Alloc<A = Global>)) -> Result<Vec<String>, Status> {
@@ -31,35 +39,42 @@ fn words(rt: &(impl Env + Alloc<A = Global>)) -> Result<Vec<String>, Status> {
     Ok(words)
 }
 
-fn run(rt: &HostRuntime) -> Status {
+/// The engines for the workers.
+fn make_engines(alloc: Global) -> Option<Vec<Box<dyn Engine + Send>>>
+    ensures { IfSome result (λ engines. vec_len engines ≡ 16) }
+{
+    let mut engines: Vec<Box<dyn Engine + Send>> = Vec::new(alloc);
+    for number in 0..ENGINES {
+        match number % 3 {
+            0 => engines
+                .push(Box::new(alloc, PlainEngine::new()).ok()?)
+                .ok()?,
+            1 => engines.push(Box::new(alloc, FastEngine::new()).ok()?).ok()?,
+            _ => engines.push(Box::new(alloc, LaneEngine::new()).ok()?).ok()?,
+        }
+    }
+    Some(engines)
+}
+
+fn run<R: Threads + Wait + Sync + Env + Input + Print + Alloc<A = Global>>(rt: &R) -> Status {
     let alloc = rt.alloc();
     let words = match words(rt) {
         Ok(words) => words,
         Err(status) => return status,
     };
-    let mut engines: Vec<Box<dyn Engine + Send>> = Vec::new(alloc);
-    for number in 0..ENGINES {
-        let refused = match number % 3 {
-            0 => match Box::new(alloc, PlainEngine::new()) {
-                Ok(engine) => engines.push(engine).is_err(),
-                Err(_) => true,
-            },
-            1 => match Box::new(alloc, FastEngine::new()) {
-                Ok(engine) => engines.push(engine).is_err(),
-                Err(_) => true,
-            },
-            _ => match Box::new(alloc, LaneEngine::new()) {
-                Ok(engine) => engines.push(engine).is_err(),
-                Err(_) => true,
-            },
-        };
-        if refused {
-            return Status::NoMemory;
-        }
-    }
+    let Some(mut engines) = make_engines(alloc) else {
+        return Status::NoMemory;
+    };
+    let Ok(output) = BufWriter::with_capacity(alloc, OUTPUT_BUFFER, io::writer(rt)) else {
+        return Status::NoMemory;
+    };
     let mut source = StdSource::new(rt.reader());
-    let mut sink = StdSink::new(io::writer(rt));
-    top(alloc, &words, &mut source, &mut sink, &mut engines)
+    let mut sink = StdSink::new(output);
+    let status = top(rt, alloc, &words, &mut source, &mut sink, &mut engines);
+    match sink.flush() {
+        Ok(()) => status,
+        Err(_) => Status::WriteFault,
+    }
 }
 
 /// Tells on standard error how the program ended, where it isn't fine.
@@ -70,6 +85,8 @@ fn report(rt: &impl Eprint, status: Status) -> io::Result<()> {
         Status::ReadFault => eprintln!(rt; "vicodec_run: read fault"),
         Status::WriteFault => eprintln!(rt; "vicodec_run: write fault"),
         Status::BadLine { line } => eprintln!(rt; "vicodec_run: bad line {line}"),
+        Status::Damaged => eprintln!(rt; "vicodec_run: damaged stream"),
+        Status::ShortRaw => eprintln!(rt; "vicodec_run: short raw picture"),
         Status::EngineFault => eprintln!(rt; "vicodec_run: engine fault"),
         Status::TooLong => eprintln!(rt; "vicodec_run: too long"),
         Status::NoMemory => eprintln!(rt; "vicodec_run: no memory"),
@@ -84,6 +101,8 @@ fn number(status: Status) -> u8 {
         Status::ReadFault => 3,
         Status::WriteFault => 4,
         Status::BadLine { .. } => 5,
+        Status::Damaged => 6,
+        Status::ShortRaw => 7,
         Status::EngineFault => 8,
         Status::TooLong => 10,
         Status::NoMemory => 12,

@@ -1,13 +1,19 @@
-//! Scripts through `top`, with sources and sinks in memory.
+//! Command lines through `top`, with sources and sinks in memory.
 
+ghost use Rattle.std.specs.Prelude.{◌≡◌, IfOk, vec_len};
+
+mod beside;
 mod copying;
 mod decoders;
+mod encode;
 mod encoders;
 mod faults;
 mod make;
 
 use std::alloc::Global;
+use std::sync::Wait;
 use std::test::Fail;
+use std::thread::Threads;
 use vc_base::NoMemory;
 use vc_core::Engine;
 use vc_engine::PlainEngine;
@@ -47,8 +53,37 @@ fn words(alloc: Global, line: &[&str]) -> Result<Vec<String>, NoMemory> {
     Ok(words)
 }
 
+/// Sixteen plain engines, of which the first fails at one run, counted from 0, where one is named.
+fn plain_engines(
+    alloc: Global,
+    failing_run: Option<u64>,
+) -> Result<Vec<Box<dyn Engine + Send>>, NoMemory>
+    ensures { IfOk result (λ engines. vec_len engines ≡ 16) }
+{
+    let mut engines: Vec<Box<dyn Engine + Send>> = Vec::new(alloc);
+    for _engine in 0..16u32 {
+        let Ok(engine) = Box::new(alloc, PlainEngine::new()) else {
+            return Err(NoMemory);
+        };
+        let Ok(()) = engines.push(engine) else {
+            return Err(NoMemory);
+        };
+    }
+    if let Some(run) = failing_run {
+        let Ok(runs) = vec![in alloc; run] else {
+            return Err(NoMemory);
+        };
+        let Ok(engine) = Box::new(alloc, FailingEngine::make(runs, PlainEngine::new())) else {
+            return Err(NoMemory);
+        };
+        engines[0] = engine;
+    }
+    Ok(engines)
+}
+
 /// Runs a command line on an input: how it ended, and what it printed.
-fn run(
+fn run<R: Threads + Wait + Sync>(
+    rt: &R,
     alloc: Global,
     line: &[&str],
     input: Vec<u8>,
@@ -62,25 +97,12 @@ fn run(
         5,
         failing_calls(alloc, fails == Failing::Sink)?,
     )?;
-    let mut engines: Vec<Box<dyn Engine + Send>> = Vec::new(alloc);
-    for _engine in 0..16u32 {
-        let Ok(engine) = Box::new(alloc, PlainEngine::new()) else {
-            return Err(NoMemory);
-        };
-        let Ok(()) = engines.push(engine) else {
-            return Err(NoMemory);
-        };
-    }
-    if let Failing::Engine { run } = fails {
-        let Ok(runs) = vec![in alloc; run] else {
-            return Err(NoMemory);
-        };
-        let Ok(engine) = Box::new(alloc, FailingEngine::make(runs, PlainEngine::new())) else {
-            return Err(NoMemory);
-        };
-        engines[0] = engine;
-    }
-    let status = top(alloc, &words, &mut source, &mut sink, &mut engines);
+    let failing_run = match fails {
+        Failing::Engine { run } => Some(run),
+        _ => None,
+    };
+    let mut engines = plain_engines(alloc, failing_run)?;
+    let status = top(rt, alloc, &words, &mut source, &mut sink, &mut engines);
     Ok((status, sink.into_bytes()))
 }
 
@@ -125,7 +147,7 @@ fn scripts_of_one_slot(rt: HostRuntime) -> Result<(), Fail> {
     for (script, text, fails, status) in AFTER_READY {
         let input = joined(rt.alloc(), READY, script)?;
         let wanted = joined(rt.alloc(), READY_TEXT, text)?;
-        let (ended, printed) = run(rt.alloc(), &["script"], input, fails)?;
+        let (ended, printed) = run(&rt, rt.alloc(), &["script"], input, fails)?;
         assert_eq!(rt; printed.as_slice(), wanted.as_slice());
         assert_eq!(rt; ended, status);
     }
@@ -163,7 +185,7 @@ fn whole_scripts(rt: HostRuntime) -> Result<(), Fail> {
     for (script, text, status) in SCRIPTS {
         let mut input = Vec::new(rt.alloc());
         input.extend_from_slice(script.as_bytes())?;
-        let (ended, printed) = run(rt.alloc(), &["script"], input, Failing::Nothing)?;
+        let (ended, printed) = run(&rt, rt.alloc(), &["script"], input, Failing::Nothing)?;
         assert_eq!(rt; printed.as_slice(), text.as_bytes());
         assert_eq!(rt; ended, status);
     }
@@ -179,7 +201,13 @@ fn command_lines_and_faults(rt: HostRuntime) -> Result<(), Fail> {
         &[],
     ];
     for line in lines {
-        let (ended, _) = run(rt.alloc(), line, Vec::new(rt.alloc()), Failing::Nothing)?;
+        let (ended, _) = run(
+            &rt,
+            rt.alloc(),
+            line,
+            Vec::new(rt.alloc()),
+            Failing::Nothing,
+        )?;
         assert_eq!(rt; ended, Status::Usage);
     }
     let causes = [
@@ -189,12 +217,18 @@ fn command_lines_and_faults(rt: HostRuntime) -> Result<(), Fail> {
     for (fails, status) in causes {
         let mut input = Vec::new(rt.alloc());
         input.extend_from_slice(READY.as_bytes())?;
-        let (ended, printed) = run(rt.alloc(), &["script", "--slots", "1024"], input, fails)?;
+        let (ended, printed) = run(
+            &rt,
+            rt.alloc(),
+            &["script", "--slots", "1024"],
+            input,
+            fails,
+        )?;
         assert_eq!(rt; ended, status);
         assert!(rt; printed.is_empty());
     }
     let long = vec![in rt.alloc(); b'#'; 1_048_577]?;
-    let (ended, printed) = run(rt.alloc(), &["script"], long, Failing::Nothing)?;
+    let (ended, printed) = run(&rt, rt.alloc(), &["script"], long, Failing::Nothing)?;
     assert_eq!(rt; ended, Status::TooLong);
     assert!(rt; printed.is_empty());
     Ok(())

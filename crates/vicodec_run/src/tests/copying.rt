@@ -29,7 +29,7 @@ const QUIET: [(&str, &str); 4] = [
 fn copying_contexts_without_a_run(rt: HostRuntime) -> Result<(), Fail> {
     for (script, text) in QUIET {
         let input = joined(rt.alloc(), script, "")?;
-        let (ended, printed) = run(rt.alloc(), &["script"], input, Failing::Nothing)?;
+        let (ended, printed) = run(&rt, rt.alloc(), &["script"], input, Failing::Nothing)?;
         assert_eq!(rt; printed.as_slice(), text.as_bytes());
         assert_eq!(rt; ended, Status::Fine);
     }
@@ -60,7 +60,7 @@ const BAD: [&str; 11] = [
 fn bad_lines_end_a_script(rt: HostRuntime) -> Result<(), Fail> {
     for line in BAD {
         let input = joined(rt.alloc(), OPENED, line)?;
-        let (ended, printed) = run(rt.alloc(), &["script"], input, Failing::Nothing)?;
+        let (ended, printed) = run(&rt, rt.alloc(), &["script"], input, Failing::Nothing)?;
         assert_eq!(rt; printed.as_slice(), OPENED_TEXT.as_bytes());
         assert_eq!(rt; ended, Status::BadLine { line: 3 });
     }
@@ -80,7 +80,7 @@ fn greatest_values_are_read(rt: HostRuntime) -> Result<(), Fail> {
     for (line, text) in GREATEST {
         let input = joined(rt.alloc(), OPENED, line)?;
         let wanted = joined(rt.alloc(), OPENED_TEXT, text)?;
-        let (ended, printed) = run(rt.alloc(), &["script"], input, Failing::Nothing)?;
+        let (ended, printed) = run(&rt, rt.alloc(), &["script"], input, Failing::Nothing)?;
         assert_eq!(rt; printed.as_slice(), wanted.as_slice());
         assert_eq!(rt; ended, Status::Fine);
     }

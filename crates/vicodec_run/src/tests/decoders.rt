@@ -6,7 +6,9 @@
 use crate::tests::{Failing, run};
 use std::alloc::Global;
 use std::process::Abort;
+use std::sync::Wait;
 use std::test::Fail;
+use std::thread::Threads;
 use vc_base::NoMemory;
 use vc_top::Status;
 
@@ -155,11 +157,15 @@ fn unfolded(alloc: Global, text: &str) -> Result<Vec<u8>, NoMemory> {
 }
 
 /// Runs each script: it prints its text and ends well.
-fn all_print(rt: &impl Abort, alloc: Global, cases: &[(&str, &str)]) -> Result<(), Fail> {
+fn all_print<R: Abort + Threads + Wait + Sync>(
+    rt: &R,
+    alloc: Global,
+    cases: &[(&str, &str)],
+) -> Result<(), Fail> {
     for (script, text) in cases {
         let input = unfolded(alloc, script)?;
         let wanted = unfolded(alloc, text)?;
-        let (ended, printed) = run(alloc, &["script"], input, Failing::Nothing)?;
+        let (ended, printed) = run(rt, alloc, &["script"], input, Failing::Nothing)?;
         assert_eq!(rt; printed.as_slice(), wanted.as_slice());
         assert_eq!(rt; ended, Status::Fine);
     }
@@ -201,7 +207,13 @@ fn a_fault_may_end_a_drain(rt: HostRuntime) -> Result<(), Fail> {
     let (script, text) = FAULT_AT_THE_END;
     let input = unfolded(rt.alloc(), script)?;
     let wanted = unfolded(rt.alloc(), text)?;
-    let (ended, printed) = run(rt.alloc(), &["script"], input, Failing::Engine { run: 1 })?;
+    let (ended, printed) = run(
+        &rt,
+        rt.alloc(),
+        &["script"],
+        input,
+        Failing::Engine { run: 1 },
+    )?;
     assert_eq!(rt; printed.as_slice(), wanted.as_slice());
     assert_eq!(rt; ended, Status::EngineFault);
     Ok(())

@@ -63,7 +63,7 @@ const CODED: [(&str, &str, Failing, Status); 4] = [
 fn encoders_without_a_run(rt: HostRuntime) -> Result<(), Fail> {
     for (script, text) in QUIET {
         let input = joined(rt.alloc(), script, "")?;
-        let (ended, printed) = run(rt.alloc(), &["script"], input, Failing::Nothing)?;
+        let (ended, printed) = run(&rt, rt.alloc(), &["script"], input, Failing::Nothing)?;
         assert_eq!(rt; printed.as_slice(), text.as_bytes());
         assert_eq!(rt; ended, Status::Fine);
     }
@@ -75,7 +75,7 @@ fn pictures_become_frames(rt: HostRuntime) -> Result<(), Fail> {
     for (script, text, fails, status) in CODED {
         let input = joined(rt.alloc(), READY, script)?;
         let wanted = joined(rt.alloc(), READY_TEXT, text)?;
-        let (ended, printed) = run(rt.alloc(), &["script"], input, fails)?;
+        let (ended, printed) = run(&rt, rt.alloc(), &["script"], input, fails)?;
         assert_eq!(rt; printed.as_slice(), wanted.as_slice());
         assert_eq!(rt; ended, status);
     }
@@ -120,7 +120,7 @@ fn sharp_pictures_are_stored(rt: HostRuntime) -> Result<(), Fail> {
     }
     repeat(&mut wanted, "\n", 1)?;
     let input = joined(rt.alloc(), READY, SHARP)?;
-    let (ended, printed) = run(rt.alloc(), &["script"], input, Failing::Nothing)?;
+    let (ended, printed) = run(&rt, rt.alloc(), &["script"], input, Failing::Nothing)?;
     assert_eq!(rt; printed.as_slice(), wanted.as_slice());
     assert_eq!(rt; ended, Status::Fine);
     Ok(())

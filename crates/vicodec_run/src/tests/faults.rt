@@ -2,7 +2,9 @@
 
 use crate::tests::{Failing, joined, run};
 use std::alloc::Global;
+use std::sync::Wait;
 use std::test::Fail;
+use std::thread::Threads;
 use vc_base::NoMemory;
 use vc_top::Status;
 
@@ -21,15 +23,19 @@ const ENCODE_TEXT: &str =
     "0 open ok\n0 sfmt ok GREY 16 16 256\n0 req ok 3\n0 req ok 3\n0 q ok\n0 q ok\n0 q ok\n0 q ok\n0 q ok\n0 q ok\n0 on ok\n0 on ok\n0 claim\n0 finish encoded\n0 claim\n0 finish fault\n0 claim\n0 finish encoded\n0 dq ok 0 48 8 0 5 4f4f4f4fffffffff0000000400000010000000100008040000000000000000000000000000000000000000040006000f\n0 dq ok 1 0 40 1 5 -\n0 dq ok 2 48 8 2 5 4f4f4f4fffffffff0000000400000010000000100008040000000000000000000000000000000000000000040006000f\n";
 
 /// What a script prints where the engine fails at its second run, and how it ends.
-fn failing_second(alloc: Global, script: &str) -> Result<(Status, Vec<u8>), NoMemory> {
+fn failing_second<R: Threads + Wait + Sync>(
+    rt: &R,
+    alloc: Global,
+    script: &str,
+) -> Result<(Status, Vec<u8>), NoMemory> {
     let input = joined(alloc, script, "")?;
-    run(alloc, &["script"], input, Failing::Engine { run: 1 })
+    run(rt, alloc, &["script"], input, Failing::Engine { run: 1 })
 }
 
 #[test]
 fn a_fault_is_told_and_the_next_run_is_fresh(rt: HostRuntime) -> Result<(), Fail> {
     for (script, text) in [(COPY, COPY_TEXT), (ENCODE, ENCODE_TEXT)] {
-        let (ended, printed) = failing_second(rt.alloc(), script)?;
+        let (ended, printed) = failing_second(&rt, rt.alloc(), script)?;
         assert_eq!(rt; printed.as_slice(), text.as_bytes());
         assert_eq!(rt; ended, Status::EngineFault);
     }

@@ -48,7 +48,13 @@ const MADE: [(&[&str], usize, [(usize, u8); 4]); 4] = [
 #[test]
 fn pictures_are_made(rt: HostRuntime) -> Result<(), Fail> {
     for (line, length, samples) in MADE {
-        let (ended, bytes) = run(rt.alloc(), line, Vec::new(rt.alloc()), Failing::Nothing)?;
+        let (ended, bytes) = run(
+            &rt,
+            rt.alloc(),
+            line,
+            Vec::new(rt.alloc()),
+            Failing::Nothing,
+        )?;
         assert_eq!(rt; ended, Status::Fine);
         assert_eq!(rt; bytes.len(), length);
         for (place, value) in samples {
@@ -79,10 +85,10 @@ fn making_reads_nothing_and_may_fail(rt: HostRuntime) -> Result<(), Fail> {
             Status::Usage,
             0,
         ),
-        (&["encode"], Failing::Nothing, Status::Usage, 0),
+        (&["decode"], Failing::Nothing, Status::Usage, 0),
     ];
     for (line, fails, status, length) in rows {
-        let (ended, bytes) = run(rt.alloc(), line, Vec::new(rt.alloc()), fails)?;
+        let (ended, bytes) = run(&rt, rt.alloc(), line, Vec::new(rt.alloc()), fails)?;
         assert_eq!(rt; ended, status);
         assert_eq!(rt; bytes.len(), length);
     }
