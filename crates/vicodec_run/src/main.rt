@@ -1,7 +1,7 @@
 //! The program: a stateful video codec device, driven by a script on standard input, or by the commands for video files.
 #![tactic(auto)]
 
-ghost use Rattle.std.specs.Prelude.{◌≡◌, IfSome, vec_len};
+ghost use Rattle.std.specs.Prelude.{◌≡◌, vec_len};
 
 #[cfg(test)]
 mod tests;
@@ -39,21 +39,25 @@ fn words(rt: &(impl Env + Alloc<A = Global>)) -> Result<Vec<String>, Status> {
     Ok(words)
 }
 
-/// The engines for the workers.
-fn make_engines(alloc: Global) -> Option<Vec<Box<dyn Engine + Send>>>
-    ensures { IfSome result (λ engines. vec_len engines ≡ 16) }
+/// Does what the words ask for, from standard input to standard output.
+fn command<R: Threads + Wait + Sync + Input + Print + Alloc<A = Global>>(
+    rt: &R,
+    words: &[String],
+    engines: &mut Vec<Box<dyn Engine + Send>>,
+) -> Status
+    requires { vec_len engines.old ≡ 16 }
 {
-    let mut engines: Vec<Box<dyn Engine + Send>> = Vec::new(alloc);
-    for number in 0..ENGINES {
-        match number % 3 {
-            0 => engines
-                .push(Box::new(alloc, PlainEngine::new()).ok()?)
-                .ok()?,
-            1 => engines.push(Box::new(alloc, FastEngine::new()).ok()?).ok()?,
-            _ => engines.push(Box::new(alloc, LaneEngine::new()).ok()?).ok()?,
-        }
+    let alloc = rt.alloc();
+    let Ok(output) = BufWriter::with_capacity(alloc, OUTPUT_BUFFER, io::writer(rt)) else {
+        return Status::NoMemory;
+    };
+    let mut source = StdSource::new(rt.reader());
+    let mut sink = StdSink::new(output);
+    let status = top(rt, alloc, words, &mut source, &mut sink, engines);
+    match sink.flush() {
+        Ok(()) => status,
+        Err(_) => Status::WriteFault,
     }
-    Some(engines)
 }
 
 fn run<R: Threads + Wait + Sync + Env + Input + Print + Alloc<A = Global>>(rt: &R) -> Status {
@@ -62,19 +66,27 @@ fn run<R: Threads + Wait + Sync + Env + Input + Print + Alloc<A = Global>>(rt: &
         Ok(words) => words,
         Err(status) => return status,
     };
-    let Some(mut engines) = make_engines(alloc) else {
-        return Status::NoMemory;
-    };
-    let Ok(output) = BufWriter::with_capacity(alloc, OUTPUT_BUFFER, io::writer(rt)) else {
-        return Status::NoMemory;
-    };
-    let mut source = StdSource::new(rt.reader());
-    let mut sink = StdSink::new(output);
-    let status = top(rt, alloc, &words, &mut source, &mut sink, &mut engines);
-    match sink.flush() {
-        Ok(()) => status,
-        Err(_) => Status::WriteFault,
+    let mut engines: Vec<Box<dyn Engine + Send>> = Vec::new(alloc);
+    for number in 0..ENGINES {
+        let refused = match number % 3 {
+            0 => match Box::new(alloc, PlainEngine::new()) {
+                Ok(engine) => engines.push(engine).is_err(),
+                Err(_) => true,
+            },
+            1 => match Box::new(alloc, FastEngine::new()) {
+                Ok(engine) => engines.push(engine).is_err(),
+                Err(_) => true,
+            },
+            _ => match Box::new(alloc, LaneEngine::new()) {
+                Ok(engine) => engines.push(engine).is_err(),
+                Err(_) => true,
+            },
+        };
+        if refused {
+            return Status::NoMemory;
+        }
     }
+    command(rt, &words, &mut engines)
 }
 
 /// Tells on standard error how the program ended, where it isn't fine.

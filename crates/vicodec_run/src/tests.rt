@@ -1,7 +1,5 @@
 //! Command lines through `top`, with sources and sinks in memory.
 
-ghost use Rattle.std.specs.Prelude.{◌≡◌, IfOk, vec_len};
-
 mod beside;
 mod copying;
 mod decoders;
@@ -53,13 +51,17 @@ fn words(alloc: Global, line: &[&str]) -> Result<Vec<String>, NoMemory> {
     Ok(words)
 }
 
-/// Sixteen plain engines, of which the first fails at one run, counted from 0, where one is named.
-fn plain_engines(
+/// Runs a command line from a source to a sink, with plain engines, of which the first fails at one run, counted from
+/// 0, where one is named. Tells how it ended.
+fn run_between<R: Threads + Wait + Sync>(
+    rt: &R,
     alloc: Global,
+    line: &[&str],
+    source: &mut MemSource,
+    sink: &mut MemSink,
     failing_run: Option<u64>,
-) -> Result<Vec<Box<dyn Engine + Send>>, NoMemory>
-    ensures { IfOk result (λ engines. vec_len engines ≡ 16) }
-{
+) -> Result<Status, NoMemory> {
+    let words = words(alloc, line)?;
     let mut engines: Vec<Box<dyn Engine + Send>> = Vec::new(alloc);
     for _engine in 0..16u32 {
         let Ok(engine) = Box::new(alloc, PlainEngine::new()) else {
@@ -78,7 +80,7 @@ fn plain_engines(
         };
         engines[0] = engine;
     }
-    Ok(engines)
+    Ok(top(rt, alloc, &words, source, sink, &mut engines))
 }
 
 /// Runs a command line on an input: how it ended, and what it printed.
@@ -89,7 +91,6 @@ fn run<R: Threads + Wait + Sync>(
     input: Vec<u8>,
     fails: Failing,
 ) -> Result<(Status, Vec<u8>), NoMemory> {
-    let words = words(alloc, line)?;
     let mut source = MemSource::make(input, 4096, failing_calls(alloc, fails == Failing::Source)?);
     let mut sink = MemSink::make(
         alloc,
@@ -101,8 +102,7 @@ fn run<R: Threads + Wait + Sync>(
         Failing::Engine { run } => Some(run),
         _ => None,
     };
-    let mut engines = plain_engines(alloc, failing_run)?;
-    let status = top(rt, alloc, &words, &mut source, &mut sink, &mut engines);
+    let status = run_between(rt, alloc, line, &mut source, &mut sink, failing_run)?;
     Ok((status, sink.into_bytes()))
 }
 

@@ -2,12 +2,15 @@
 
 ghost use Rattle.std.specs.Prelude.{◌≡◌};
 
-use crate::tests::{Failing, plain_engines, run, words};
+use crate::tests::{Failing, run, words};
 use std::alloc::Global;
-use std::sync::Arc;
 use std::sync::atomic::{AtomicBool, AtomicU64, Ordering};
+use std::sync::{Arc, Wait};
 use std::test::Fail;
 use std::thread;
+use std::thread::Threads;
+use vc_base::NoMemory;
+use vc_core::Engine;
 use vc_engine::PlainEngine;
 use vc_fault::{Gate, GatedEngine};
 use vc_io::{MemSink, MemSource, ReadFailed, Source};
@@ -74,6 +77,29 @@ impl Source for WatchedSource {
     }
 }
 
+/// The frames of so many bytes 128 by plain engines.
+fn plainly<R: Threads + Wait + Sync>(
+    rt: &R,
+    alloc: Global,
+    line: &[&str],
+    bytes: usize,
+) -> Result<Vec<u8>, NoMemory> {
+    let Ok(input) = vec![in alloc; 128; bytes] else {
+        return Err(NoMemory);
+    };
+    let (_, written) = run(rt, alloc, line, input, Failing::Nothing)?;
+    Ok(written)
+}
+
+/// The door, before anybody looked.
+fn shut_door() -> Door {
+    Door {
+        has_come: AtomicBool::new(false),
+        reader_looks: AtomicU64::new(0),
+        gate_looks: AtomicU64::new(0),
+    }
+}
+
 /// The worker's run begins while the caller reads on: neither side could go on without the other.
 #[test]
 fn jobs_run_beside_the_caller(rt: HostRuntime) -> Result<(), Fail> {
@@ -88,39 +114,29 @@ fn jobs_run_beside_the_caller(rt: HostRuntime) -> Result<(), Fail> {
         "--workers",
         "1",
     ];
-    let input = vec![in rt.alloc(); 128; 768]?;
-    let (_, wanted) = run(&rt, rt.alloc(), line, input, Failing::Nothing)?;
     let words = words(rt.alloc(), line)?;
-    let door = Arc::new(
-        rt.alloc(),
-        Door {
-            has_come: AtomicBool::new(false),
-            reader_looks: AtomicU64::new(0),
-            gate_looks: AtomicU64::new(0),
-        },
-    )?;
+    let door = Arc::new(rt.alloc(), shut_door())?;
+    let input = vec![in rt.alloc(); 128; 768]?;
     let mut source = WatchedSource {
-        pictures: MemSource::make(vec![in rt.alloc(); 128; 768]?, 256, Vec::new(rt.alloc())),
+        pictures: MemSource::make(input, 256, Vec::new(rt.alloc())),
         reads: 0,
         door: Arc::try_clone(&door)?,
     };
     let mut sink = MemSink::make(rt.alloc(), 4096, 4096, Vec::new(rt.alloc()))?;
-    let mut engines = plain_engines(rt.alloc(), None)?;
     let watch = Watch {
         door: Arc::try_clone(&door)?,
     };
-    engines[0] = Box::new(rt.alloc(), GatedEngine::make(watch, PlainEngine::new()))?;
-    let status = top(
-        &rt,
-        rt.alloc(),
-        &words,
-        &mut source,
-        &mut sink,
-        &mut engines,
-    );
+    let mut engines: Vec<Box<dyn Engine + Send>> = Vec::new(rt.alloc());
+    engines.push(Box::new(rt.alloc(), GatedEngine::make(watch, PlainEngine::new()))?)?;
+    for _engine in 1..16u32 {
+        engines.push(Box::new(rt.alloc(), PlainEngine::new())?)?;
+    }
+    let alloc = rt.alloc();
+    let status = top(&rt, alloc, &words, &mut source, &mut sink, &mut engines);
     assert_eq!(rt; status, Status::Fine);
     assert!(rt; door.gate_looks.load(Ordering::SeqCst) < MOST_LOOKS);
     assert!(rt; door.reader_looks.load(Ordering::SeqCst) < MOST_LOOKS);
+    let wanted = plainly(&rt, rt.alloc(), line, 768)?;
     assert_eq!(rt; sink.into_bytes().as_slice(), wanted.as_slice());
     Ok(())
 }

@@ -1,13 +1,15 @@
 //! Raw pictures through `encode`.
 
-use crate::tests::{Failing, plain_engines, run, words};
+ghost use Rattle.std.specs.Prelude.{◌<◌};
+
+use crate::tests::{Failing, run, run_between};
 use std::alloc::Global;
 use std::sync::Wait;
 use std::test::Fail;
 use std::thread::Threads;
 use vc_base::NoMemory;
 use vc_io::{MemSink, MemSource};
-use vc_top::{Status, top};
+use vc_top::Status;
 
 /// The frames of two pictures of 16 by 16 samples of 128: an I frame, and the P frame behind it.
 const FRAMES: &[u8; 96] =
@@ -138,7 +140,6 @@ fn encode_two<R: Threads + Wait + Sync>(
         "--workers",
         "1",
     ];
-    let words = words(alloc, line)?;
     let Ok(input) = vec![in alloc; 128; 512] else {
         return Err(NoMemory);
     };
@@ -153,8 +154,8 @@ fn encode_two<R: Threads + Wait + Sync>(
         outside.write_step,
         listed(alloc, outside.failing_write)?,
     )?;
-    let mut engines = plain_engines(alloc, outside.failing_run)?;
-    let status = top(rt, alloc, &words, &mut source, &mut sink, &mut engines);
+    let failing_run = outside.failing_run;
+    let status = run_between(rt, alloc, line, &mut source, &mut sink, failing_run)?;
     Ok((status, sink.into_bytes()))
 }
 
