@@ -1,0 +1,6 @@
+pub mod Adding
+pub mod Ends
+pub mod Helped
+pub mod Owners
+pub mod Shares
+pub mod Together

@@ -1,0 +1,4 @@
+pub mod Beside
+pub mod Flowing
+pub mod Rising
+pub mod Workers
