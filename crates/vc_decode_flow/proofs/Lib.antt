@@ -1,0 +1,9 @@
+pub mod Calls
+pub mod Captures
+pub mod Consuming
+pub mod Decoding
+pub mod Dones
+pub mod Ending
+pub mod Fed
+pub mod Going
+pub mod Prefixes

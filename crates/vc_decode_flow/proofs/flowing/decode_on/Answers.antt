@@ -1,0 +1,15 @@
+use Rattle.std.proofs.Common.{true, false}
+use Rattle.vc_decode_flow.proofs.Ending.{is_written, is_front, came_through}
+use Rattle.vc_decode_flow.proofs.flowing.decode_on.Goals as goal
+
+pub returns-clause-whole : goal.returns-clause-whole
+returns-clause-whole g c = λ e.
+    is_written _ _ _ false _ _ _ _ (came_through _ _ false (c.end_of.ensures.whole e) c.run_flow-ended.ensures.through) c.close_slot.ensures.bytes c.close_slot.ensures.finishes
+
+pub returns-clause-damaged : goal.returns-clause-damaged
+returns-clause-damaged g c = λ e.
+    is_written _ _ _ true _ _ _ _ (came_through _ _ true (c.end_of.ensures.damaged e) c.run_flow-ended.ensures.through) c.close_slot.ensures.bytes c.close_slot.ensures.finishes
+
+pub returns-clause-front : goal.returns-clause-front
+returns-clause-front g c =
+    is_front _ _ _ _ _ _ _ _ c.run_flow-ended.ensures.through c.run_flow-ended.ensures.cut c.close_slot.ensures.bytes

@@ -1,0 +1,19 @@
+use Rattle.std.proofs.Common.{refl}
+use Rattle.vc_decode_flow.proofs.Calls.{bytes_stay, quiet_keeps}
+use Rattle.vc_decode_flow.proofs.setting.queue_capture.Goals as goal
+
+pub returns-in-Done-clause-stream : goal.returns-in-Done-clause-stream
+returns-in-Done-clause-stream g c = λ start f w. quiet_keeps start _ _ f _ _ _ _ refl refl c.in-Done.ensures.does w
+
+pub returns-in-Done-clause-bytes : goal.returns-in-Done-clause-bytes
+returns-in-Done-clause-bytes g c = bytes_stay _ _ _ _ _ _ c.call_on.ensures.does refl
+
+pub returns-in_default : goal.returns-in_default
+returns-in_default g c =
+    record {
+      ready = c.call_on.ensures.ready;
+      follows = c.call_on.ensures.follows;
+      stream = λ start f w. tt;
+      bytes = bytes_stay _ _ _ _ _ _ c.call_on.ensures.does refl;
+      memory = refl;
+    }

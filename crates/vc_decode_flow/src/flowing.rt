@@ -1,0 +1,220 @@
+//! The flow: a coded stream in, pictures out.
+
+ghost use Rattle.std.specs.Prelude.{◌≡◌, ◌≢◌, ◌<◌, ◌≤◌, ℕ, true, false, None, List, Option, Ok, Err, OnOk, OnErr, IfOk, IfErr, IsErrOf};
+ghost use Rattle.vc_base.specs.Counts.{Rose};
+ghost use Rattle.vc_model.specs.Solo.{SoloEvent};
+ghost use Rattle.vc_port.specs.Payloads.{slot_after};
+ghost use Rattle.vc_encode_flow.specs.Endings.{IsLong};
+ghost use Rattle.vc_encode_flow.specs.Flows.{fault_finishes};
+ghost use Rattle.vc_decode_flow.specs.Steps.{IsSeeking, IsDecoding, IsCutShort};
+ghost use Rattle.vc_decode_flow.specs.Endings.{IsAllWritten, IsThrough, IsWritten, IsFrontWritten};
+
+use crate::closing::close_slot;
+use crate::draining::drain;
+use crate::ends::Stop;
+use crate::feeding::feed;
+use crate::opening::open_decoder;
+use crate::reading::Reading;
+use crate::rounds::{go_round, is_either_damaged};
+use crate::seeking::find_geometry;
+use crate::setting::{restart, set_up};
+use std::alloc::Global;
+use std::sync::Wait;
+use vc_encode_flow::FlowEnd;
+use vc_io::{Sink, Source};
+use vc_port::PayloadPort;
+
+/// Decodes until the input ends, and tells whether a frame was damaged.
+fn decode_input<R: Wait, P: PayloadPort, S: Source, K: Sink>(
+    rt: &R,
+    port: &mut P,
+    source: &mut S,
+    sink: &mut K,
+    reading: &mut Reading,
+) -> Result<bool, Stop>
+    requires ready { P.ready port.old }
+    ensures ready { P.ready port.new }
+    ensures follows { P.follows port.old port.new }
+    ensures decodes { (start : List SoloEvent) (first left : Option (List ℕ)) → IsDecoding start false first (K.written sink.old) left (S.left source.old) reading.old.coverage reading.old.ended (P.events port.old) → IfOk result (λ damaged. IsDecoding start damaged first (K.written sink.new) left (S.left source.new) reading.new.coverage reading.new.ended (P.events port.new)) }
+    ensures ended { OnOk result (reading.new.ended ≡ true) }
+    ensures cut { (start : List SoloEvent) (first left : Option (List ℕ)) → IsDecoding start false first (K.written sink.old) left (S.left source.old) reading.old.coverage reading.old.ended (P.events port.old) → OnErr result (IsCutShort start first (K.written sink.new) left (P.events port.new)) }
+    ensures long { (start : List SoloEvent) (first left : Option (List ℕ)) → IsDecoding start false first (K.written sink.old) left (S.left source.old) reading.old.coverage reading.old.ended (P.events port.old) → IsErrOf result Stop.TooLong → IsLong left (S.left source.new) }
+    ensures engine { (start : List SoloEvent) (first left : Option (List ℕ)) → IsDecoding start false first (K.written sink.old) left (S.left source.old) reading.old.coverage reading.old.ended (P.events port.old) → IsErrOf result Stop.EngineFault → fault_finishes start < fault_finishes (P.events port.new) }
+    ensures source_later { S.faults source.old ≤ S.faults source.new }
+    ensures sink_later { K.faults sink.old ≤ K.faults sink.new }
+    ensures read { IsErrOf result Stop.ReadFault → Rose (S.faults source.old) (S.faults source.new) }
+    ensures write { IsErrOf result Stop.WriteFault → Rose (K.faults sink.old) (K.faults sink.new) }
+{
+    let mut damaged = false;
+    for _ in rt.forever() {
+        match feed(port, source, reading) {
+            Ok(()) => {}
+            Err(stop) => return Err(stop),
+        }
+        if reading.ended {
+            return Ok(damaged);
+        }
+        let round = match go_round(rt, port, sink) {
+            Ok(round) => round,
+            Err(stop) => return Err(stop),
+        };
+        damaged = is_either_damaged(damaged, round.damaged);
+        if !round.last {
+            continue;
+        }
+        match restart(rt, port) {
+            Ok(()) => {}
+            Err(stop) => return Err(stop),
+        }
+    }
+    unreachable!()
+}
+
+/// Decodes from the first geometry on to the end, and tells whether a frame was damaged.
+fn decode_all<R: Wait, P: PayloadPort, S: Source, K: Sink>(
+    rt: &R,
+    port: &mut P,
+    source: &mut S,
+    sink: &mut K,
+    reading: &mut Reading,
+) -> Result<bool, Stop>
+    requires ready { P.ready port.old }
+    ensures ready { P.ready port.new }
+    ensures follows { P.follows port.old port.new }
+    ensures all { (start : List SoloEvent) (left : Option (List ℕ)) → IsSeeking start left (S.left source.old) reading.old.coverage reading.old.ended (P.events port.old) → IfOk result (λ damaged. IsAllWritten start damaged (K.written sink.old) (K.written sink.new) left (S.left source.new) reading.new.coverage (P.events port.new)) }
+    ensures cut { (start : List SoloEvent) (left : Option (List ℕ)) → IsSeeking start left (S.left source.old) reading.old.coverage reading.old.ended (P.events port.old) → OnErr result (IsCutShort start (K.written sink.old) (K.written sink.new) left (P.events port.new)) }
+    ensures long { (start : List SoloEvent) (left : Option (List ℕ)) → IsSeeking start left (S.left source.old) reading.old.coverage reading.old.ended (P.events port.old) → IsErrOf result Stop.TooLong → IsLong left (S.left source.new) }
+    ensures engine { (start : List SoloEvent) (left : Option (List ℕ)) → IsSeeking start left (S.left source.old) reading.old.coverage reading.old.ended (P.events port.old) → IsErrOf result Stop.EngineFault → fault_finishes start < fault_finishes (P.events port.new) }
+    ensures source_later { S.faults source.old ≤ S.faults source.new }
+    ensures sink_later { K.faults sink.old ≤ K.faults sink.new }
+    ensures read { IsErrOf result Stop.ReadFault → Rose (S.faults source.old) (S.faults source.new) }
+    ensures write { IsErrOf result Stop.WriteFault → Rose (K.faults sink.old) (K.faults sink.new) }
+{
+    set_up(port)?;
+    match decode_input(rt, port, source, sink, reading) {
+        Ok(damaged) => drain(rt, port, sink, damaged),
+        Err(stop) => Err(stop),
+    }
+}
+
+/// Lets the whole input go through the slot that was opened. Tells whether a frame was damaged.
+fn decode_open<R: Wait, P: PayloadPort, S: Source, K: Sink>(
+    rt: &R,
+    port: &mut P,
+    source: &mut S,
+    sink: &mut K,
+    reading: &mut Reading,
+) -> Result<bool, Stop>
+    requires ready { P.ready port.old }
+    ensures ready { P.ready port.new }
+    ensures follows { P.follows port.old port.new }
+    ensures all { (start : List SoloEvent) (left : Option (List ℕ)) → IsSeeking start left (S.left source.old) reading.old.coverage reading.old.ended (P.events port.old) → IfOk result (λ damaged. IsAllWritten start damaged (K.written sink.old) (K.written sink.new) left (S.left source.new) reading.new.coverage (P.events port.new)) }
+    ensures cut { (start : List SoloEvent) (left : Option (List ℕ)) → IsSeeking start left (S.left source.old) reading.old.coverage reading.old.ended (P.events port.old) → OnErr result (IsCutShort start (K.written sink.old) (K.written sink.new) left (P.events port.new)) }
+    ensures long { (start : List SoloEvent) (left : Option (List ℕ)) → IsSeeking start left (S.left source.old) reading.old.coverage reading.old.ended (P.events port.old) → IsErrOf result Stop.TooLong → IsLong left (S.left source.new) }
+    ensures engine { (start : List SoloEvent) (left : Option (List ℕ)) → IsSeeking start left (S.left source.old) reading.old.coverage reading.old.ended (P.events port.old) → IsErrOf result Stop.EngineFault → fault_finishes start < fault_finishes (P.events port.new) }
+    ensures source_later { S.faults source.old ≤ S.faults source.new }
+    ensures sink_later { K.faults sink.old ≤ K.faults sink.new }
+    ensures read { IsErrOf result Stop.ReadFault → Rose (S.faults source.old) (S.faults source.new) }
+    ensures write { IsErrOf result Stop.WriteFault → Rose (K.faults sink.old) (K.faults sink.new) }
+{
+    match find_geometry(rt, port, source, reading) {
+        Ok(true) => return decode_all(rt, port, source, sink, reading),
+        Ok(false) => {}
+        Err(stop) => return Err(stop),
+    }
+    if reading.has_key_header() {
+        return Err(Stop::NoMemory);
+    }
+    Ok(false)
+}
+
+/// Opens the slot, and lets the whole input go through it. Tells whether the input is damaged.
+fn run_flow<R: Wait, P: PayloadPort, S: Source, K: Sink>(
+    rt: &R,
+    alloc: Global,
+    port: &mut P,
+    source: &mut S,
+    sink: &mut K,
+) -> Result<bool, Stop>
+    requires ready { P.ready port.old }
+    requires closed { slot_after (P.events port.old) ≡ None }
+    ensures ready { P.ready port.new }
+    ensures follows { P.follows port.old port.new }
+    ensures through { IfOk result (λ damaged. IsThrough (P.events port.old) damaged (K.written sink.old) (K.written sink.new) (S.left source.old) (S.left source.new) (P.events port.new)) }
+    ensures cut { OnErr result (IsCutShort (P.events port.old) (K.written sink.old) (K.written sink.new) (S.left source.old) (P.events port.new)) }
+    ensures long { IsErrOf result Stop.TooLong → IsLong (S.left source.old) (S.left source.new) }
+    ensures engine { IsErrOf result Stop.EngineFault → fault_finishes (P.events port.old) < fault_finishes (P.events port.new) }
+    ensures source_later { S.faults source.old ≤ S.faults source.new }
+    ensures sink_later { K.faults sink.old ≤ K.faults sink.new }
+    ensures read { IsErrOf result Stop.ReadFault → Rose (S.faults source.old) (S.faults source.new) }
+    ensures write { IsErrOf result Stop.WriteFault → Rose (K.faults sink.old) (K.faults sink.new) }
+{
+    let mut reading = Reading::make(alloc)?;
+    open_decoder(port)?;
+    match decode_open(rt, port, source, sink, &mut reading) {
+        Ok(damaged) => {
+            let leaves = reading.leaves_a_byte();
+            Ok(is_either_damaged(damaged, leaves))
+        }
+        Err(stop) => Err(stop),
+    }
+}
+
+/// How a flow ends that came through, with a damaged input or without, or was stopped.
+fn end_of(ended: Result<bool, Stop>) -> FlowEnd
+    ensures whole { result ≡ FlowEnd.Whole → ended ≡ Ok false }
+    ensures damaged { result ≡ FlowEnd.Damaged → ended ≡ Ok true }
+    ensures read { result ≡ FlowEnd.ReadFault → ended ≡ Err Stop.ReadFault }
+    ensures write { result ≡ FlowEnd.WriteFault → ended ≡ Err Stop.WriteFault }
+    ensures engine { result ≡ FlowEnd.EngineFault → ended ≡ Err Stop.EngineFault }
+    ensures long { result ≡ FlowEnd.TooLong → ended ≡ Err Stop.TooLong }
+    ensures no_raw { result ≢ FlowEnd.ShortRaw }
+{
+    match ended {
+        Ok(false) => FlowEnd::Whole,
+        Ok(true) => FlowEnd::Damaged,
+        Err(Stop::ReadFault) => FlowEnd::ReadFault,
+        Err(Stop::WriteFault) => FlowEnd::WriteFault,
+        Err(Stop::EngineFault) => FlowEnd::EngineFault,
+        Err(Stop::TooLong) => FlowEnd::TooLong,
+        Err(Stop::NoMemory) => FlowEnd::NoMemory,
+    }
+}
+
+/// Decodes the coded stream of the input with one decoder of the device, and writes its good pictures, each in the first
+/// raw format of its layout (docs/FORMAT.md, "The sequential decoder").
+///
+/// The slot is closed before and after. What is written is a front of the pictures of the input, and of what the slot
+/// handed out; it is all of both where the flow ends with `Whole`, and with `Damaged`, where the input has a damaged frame
+/// or a byte in no frame. The flow never ends with `ShortRaw`.
+///
+/// Two OUTPUT and four CAPTURE buffers are used. OUTPUT streams before the first byte is read. A piece of the input, of at
+/// most 65,536 bytes, is queued before the next one is read, and no reply is waited for before both OUTPUT buffers are
+/// queued or the input has ended. At each change of geometry CAPTURE is restarted once, and at the end the slot is drained.
+pub fn decode_on<R: Wait, P: PayloadPort, S: Source, K: Sink>(
+    rt: &R,
+    alloc: Global,
+    port: &mut P,
+    source: &mut S,
+    sink: &mut K,
+) -> FlowEnd
+    requires ready { P.ready port.old }
+    requires closed { slot_after (P.events port.old) ≡ None }
+    ensures ready { P.ready port.new }
+    ensures follows { P.follows port.old port.new }
+    ensures closed { slot_after (P.events port.new) ≡ None }
+    ensures whole { result ≡ FlowEnd.Whole → IsWritten false (S.left source.old) (S.left source.new) (K.written sink.old) (K.written sink.new) (P.events port.old) (P.events port.new) }
+    ensures damaged { result ≡ FlowEnd.Damaged → IsWritten true (S.left source.old) (S.left source.new) (K.written sink.old) (K.written sink.new) (P.events port.old) (P.events port.new) }
+    ensures front { IsFrontWritten (S.left source.old) (K.written sink.old) (K.written sink.new) (P.events port.old) (P.events port.new) }
+    ensures source_later { S.faults source.old ≤ S.faults source.new }
+    ensures sink_later { K.faults sink.old ≤ K.faults sink.new }
+    ensures read { result ≡ FlowEnd.ReadFault → Rose (S.faults source.old) (S.faults source.new) }
+    ensures write { result ≡ FlowEnd.WriteFault → Rose (K.faults sink.old) (K.faults sink.new) }
+    ensures engine { result ≡ FlowEnd.EngineFault → fault_finishes (P.events port.old) < fault_finishes (P.events port.new) }
+    ensures long { result ≡ FlowEnd.TooLong → IsLong (S.left source.old) (S.left source.new) }
+    ensures no_raw { result ≢ FlowEnd.ShortRaw }
+{
+    let ended = run_flow(rt, alloc, port, source, sink);
+    close_slot(rt, port);
+    end_of(ended)
+}

@@ -1,0 +1,125 @@
+//! Sets CAPTURE up, and restarts it.
+
+ghost use Rattle.std.specs.Prelude.{◌≡◌, List, OnOk, IfErr};
+ghost use Rattle.vc_model.specs.Solo.{SoloEvent};
+ghost use Rattle.vc_port.specs.Payloads.{bytes_out};
+ghost use Rattle.vc_stream_laws.specs.Streams.{StreamSoFar, stop_by_change, IsStream};
+ghost use Rattle.vc_decode_flow.specs.Steps.{with_captures, without_captures, restarted};
+
+use crate::ends::Stop;
+use std::sync::Wait;
+use vc_base::{Call, Reply, Side, Stamp};
+use vc_port::PayloadPort;
+use vc_wait::{call_on, wait_on};
+
+/// The buffers of CAPTURE.
+const CAP_BUFFERS: u32 = 4;
+
+fn request_captures<P: PayloadPort>(port: &mut P) -> Result<(), Stop>
+    requires ready { P.ready port.old }
+    ensures ready { P.ready port.new }
+    ensures follows { P.follows port.old port.new }
+    ensures stream { (start : List SoloEvent) (f : StreamSoFar) → IsStream start f (P.events port.old) → OnOk result (IsStream start f (P.events port.new)) }
+    ensures bytes { bytes_out (P.events port.new) ≡ bytes_out (P.events port.old) }
+    ensures memory { IfErr result (λ stop. stop ≡ Stop.NoMemory) }
+{
+    let call = Call::ReqBufs {
+        side: Side::Cap,
+        count: CAP_BUFFERS,
+    };
+    match call_on(port, &call) {
+        Reply::Count { .. } => Ok(()),
+        _ => Err(Stop::NoMemory),
+    }
+}
+
+/// Queues a CAPTURE buffer.
+pub(crate) fn queue_capture<P: PayloadPort>(port: &mut P, index: u32) -> Result<(), Stop>
+    requires ready { P.ready port.old }
+    ensures ready { P.ready port.new }
+    ensures follows { P.follows port.old port.new }
+    ensures stream { (start : List SoloEvent) (f : StreamSoFar) → IsStream start f (P.events port.old) → OnOk result (IsStream start f (P.events port.new)) }
+    ensures bytes { bytes_out (P.events port.new) ≡ bytes_out (P.events port.old) }
+    ensures memory { IfErr result (λ stop. stop ≡ Stop.NoMemory) }
+{
+    let call = Call::QBuf {
+        side: Side::Cap,
+        index,
+        used: 0,
+        stamp: Stamp(0),
+    };
+    match call_on(port, &call) {
+        Reply::Done => Ok(()),
+        _ => Err(Stop::NoMemory),
+    }
+}
+
+/// Queues all CAPTURE buffers.
+fn queue_captures<P: PayloadPort>(port: &mut P) -> Result<(), Stop>
+    requires ready { P.ready port.old }
+    ensures ready { P.ready port.new }
+    ensures follows { P.follows port.old port.new }
+    ensures stream { (start : List SoloEvent) (f : StreamSoFar) → IsStream start f (P.events port.old) → OnOk result (IsStream start f (P.events port.new)) }
+    ensures bytes { bytes_out (P.events port.new) ≡ bytes_out (P.events port.old) }
+    ensures memory { IfErr result (λ stop. stop ≡ Stop.NoMemory) }
+{
+    for index in 0..CAP_BUFFERS {
+        queue_capture(port, index)?;
+    }
+    Ok(())
+}
+
+fn stream_captures<P: PayloadPort>(port: &mut P) -> Result<(), Stop>
+    requires ready { P.ready port.old }
+    ensures ready { P.ready port.new }
+    ensures follows { P.follows port.old port.new }
+    ensures stream { (start : List SoloEvent) (f : StreamSoFar) → IsStream start f (P.events port.old) → OnOk result (IsStream start (with_captures f) (P.events port.new)) }
+    ensures bytes { bytes_out (P.events port.new) ≡ bytes_out (P.events port.old) }
+    ensures memory { IfErr result (λ stop. stop ≡ Stop.NoMemory) }
+{
+    match call_on(port, &Call::StreamOn { side: Side::Cap }) {
+        Reply::Done => Ok(()),
+        _ => Err(Stop::NoMemory),
+    }
+}
+
+/// Gives CAPTURE buffers of the present format, queues them and makes it stream.
+pub(crate) fn set_up<P: PayloadPort>(port: &mut P) -> Result<(), Stop>
+    requires ready { P.ready port.old }
+    ensures ready { P.ready port.new }
+    ensures follows { P.follows port.old port.new }
+    ensures stream { (start : List SoloEvent) (f : StreamSoFar) → IsStream start f (P.events port.old) → OnOk result (IsStream start (with_captures f) (P.events port.new)) }
+    ensures bytes { bytes_out (P.events port.new) ≡ bytes_out (P.events port.old) }
+    ensures memory { IfErr result (λ stop. stop ≡ Stop.NoMemory) }
+{
+    request_captures(port)?;
+    queue_captures(port)?;
+    stream_captures(port)
+}
+
+fn stop_captures<R: Wait, P: PayloadPort>(rt: &R, port: &mut P) -> Result<(), Stop>
+    requires ready { P.ready port.old }
+    ensures ready { P.ready port.new }
+    ensures follows { P.follows port.old port.new }
+    ensures stream { (start : List SoloEvent) (f : StreamSoFar) → f.known ≡ stop_by_change → IsStream start f (P.events port.old) → OnOk result (IsStream start (without_captures f) (P.events port.new)) }
+    ensures bytes { bytes_out (P.events port.new) ≡ bytes_out (P.events port.old) }
+    ensures memory { IfErr result (λ stop. stop ≡ Stop.NoMemory) }
+{
+    match wait_on(rt, port, &Call::StreamOff { side: Side::Cap }) {
+        Reply::Done => Ok(()),
+        _ => Err(Stop::NoMemory),
+    }
+}
+
+/// Restarts CAPTURE after a change of geometry, with buffers of the new format. A drain goes on.
+pub(crate) fn restart<R: Wait, P: PayloadPort>(rt: &R, port: &mut P) -> Result<(), Stop>
+    requires ready { P.ready port.old }
+    ensures ready { P.ready port.new }
+    ensures follows { P.follows port.old port.new }
+    ensures stream { (start : List SoloEvent) (f : StreamSoFar) → f.known ≡ stop_by_change → IsStream start f (P.events port.old) → OnOk result (IsStream start (restarted f) (P.events port.new)) }
+    ensures bytes { bytes_out (P.events port.new) ≡ bytes_out (P.events port.old) }
+    ensures memory { IfErr result (λ stop. stop ≡ Stop.NoMemory) }
+{
+    stop_captures(rt, port)?;
+    set_up(port)
+}

@@ -1,0 +1,188 @@
+//! Takes what the slot of a flow has.
+
+ghost use Rattle.std.specs.Prelude.{◌≡◌, ◌≢◌, ◌<◌, ℕ, true, false, List, OnOk, IfOk, IfErr, IfSome, IsErrOf};
+ghost use Rattle.vc_base.specs.declared.Side.TheVariants.{Cap};
+ghost use Rattle.vc_model.specs.Places.{has_error};
+ghost use Rattle.vc_model.specs.Solo.{SoloEvent};
+ghost use Rattle.vc_queue.specs.Holds.{held_payload};
+ghost use Rattle.vc_port.specs.Payloads.{bytes_out};
+ghost use Rattle.vc_encode_flow.specs.Flows.{HandedFirst, fault_finishes};
+ghost use Rattle.vc_encode_flow.specs.Steps.{IsThere};
+ghost use Rattle.vc_stream_laws.specs.Streams.{StreamSoFar, IsStream, IsUnspoilt};
+ghost use Rattle.vc_decode_flow.specs.Steps.{KeepsCaptures, HasTaken, with_stop};
+
+use crate::ends::Stop;
+use crate::opening::OUT_BUFFERS;
+use std::sync::Wait;
+use vc_base::{Call, Errno, Reply, Side};
+use vc_port::PayloadPort;
+use vc_wait::call_on;
+
+/// The flag ERROR of a buffer.
+const ERROR: u32 = 0x40;
+
+/// The flag LAST of a buffer.
+const LAST: u32 = 0x10_0000;
+
+/// A CAPTURE buffer that was taken: how many of its bytes are used, whether it is of a damaged frame, and whether it is
+/// the last one before a stop.
+#[derive(Clone, Copy, Debug)]
+pub(crate) struct Taken {
+    pub(crate) index: u32,
+    pub(crate) used: u32,
+    pub(crate) damaged: bool,
+    pub(crate) last: bool,
+}
+
+/// Whether the flags have ERROR.
+fn is_failed(flags: u32) -> bool
+    ensures { result ≡ has_error flags }
+{
+    flags & ERROR == ERROR
+}
+
+/// Waits until the slot has an event, a CAPTURE buffer or an OUTPUT buffer to take.
+fn wait_ready<R: Wait, P: PayloadPort>(rt: &R, port: &mut P)
+    requires ready { P.ready port.old }
+    ensures ready { P.ready port.new }
+    ensures follows { P.follows port.old port.new }
+    ensures stream { (start : List SoloEvent) (f : StreamSoFar) → IsStream start f (P.events port.old) → IsStream start f (P.events port.new) }
+    ensures bytes { bytes_out (P.events port.new) ≡ bytes_out (P.events port.old) }
+{
+    for _ in rt.forever() {
+        match call_on(port, &Call::Poll) {
+            Reply::Ready {
+                read: false,
+                write: false,
+                urgent: false,
+            } => port.pause(),
+            _ => return,
+        }
+    }
+}
+
+/// Waits until the slot has something to take. Where it is an event, it is taken, and its type is told.
+pub(crate) fn next_event<R: Wait, P: PayloadPort>(rt: &R, port: &mut P) -> Option<u32>
+    requires ready { P.ready port.old }
+    ensures ready { P.ready port.new }
+    ensures follows { P.follows port.old port.new }
+    ensures stream { (start : List SoloEvent) (f : StreamSoFar) → IsStream start f (P.events port.old) → IsStream start f (P.events port.new) }
+    ensures bytes { bytes_out (P.events port.new) ≡ bytes_out (P.events port.old) }
+{
+    wait_ready(rt, port);
+    match call_on(port, &Call::DqEvent { block: false }) {
+        Reply::Happened { event, .. } => Some(event),
+        _ => None,
+    }
+}
+
+/// Finds that the slot has stopped: there is no CAPTURE buffer behind the LAST one.
+fn find_stopped<P: PayloadPort>(port: &mut P) -> Result<(), Stop>
+    requires ready { P.ready port.old }
+    ensures ready { P.ready port.new }
+    ensures follows { P.follows port.old port.new }
+    ensures stream { (start : List SoloEvent) (f : StreamSoFar) → IsStream start f (P.events port.old) → OnOk result (IsStream start (with_stop f) (P.events port.new)) }
+    ensures payloads { OnOk result (KeepsCaptures (P.hold port.old) (P.hold port.new)) }
+    ensures bytes { OnOk result (bytes_out (P.events port.new) ≡ bytes_out (P.events port.old)) }
+    ensures hands { (start : List SoloEvent) (bytes : List ℕ) → HandedFirst start bytes (P.events port.old) → HandedFirst start bytes (P.events port.new) }
+    ensures memory { IfErr result (λ stop. stop ≡ Stop.NoMemory) }
+{
+    let call = Call::DqBuf {
+        side: Side::Cap,
+        block: false,
+    };
+    match call_on(port, &call) {
+        Reply::Refused { errno: Errno::Pipe } => Ok(()),
+        _ => Err(Stop::NoMemory),
+    }
+}
+
+/// Takes a CAPTURE buffer, where one is done. Behind the last one before a stop the slot has stopped.
+pub(crate) fn take_capture<P: PayloadPort>(port: &mut P) -> Result<Option<Taken>, Stop>
+    requires ready { P.ready port.old }
+    ensures ready { P.ready port.new }
+    ensures follows { P.follows port.old port.new }
+    ensures there { IfOk result (λ taken. IfSome taken (λ t. IsThere (held_payload (P.hold port.new) Cap t.index) t.used)) }
+    ensures taken { (start : List SoloEvent) (f : StreamSoFar) → IsStream start f (P.events port.old) → IfOk result (λ taken. HasTaken start f taken (P.hold port.new) (P.events port.old) (P.events port.new)) }
+    ensures hands { (start : List SoloEvent) (bytes : List ℕ) → HandedFirst start bytes (P.events port.old) → HandedFirst start bytes (P.events port.new) }
+    ensures memory { IfErr result (λ stop. stop ≡ Stop.NoMemory) }
+{
+    let call = Call::DqBuf {
+        side: Side::Cap,
+        block: false,
+    };
+    match call_on(port, &call) {
+        Reply::Taken {
+            index,
+            used,
+            flags,
+            ..
+        } => {
+            let taken = Taken {
+                index,
+                used,
+                damaged: is_failed(flags),
+                last: flags & LAST == LAST,
+            };
+            if !taken.last {
+                return Ok(Some(taken));
+            }
+            find_stopped(port)?;
+            Ok(Some(taken))
+        }
+        Reply::Refused { .. } => Ok(None),
+        _ => Err(Stop::NoMemory),
+    }
+}
+
+/// Takes an OUTPUT buffer, and tells whether one was done.
+fn take_source<P: PayloadPort>(port: &mut P) -> Result<bool, Stop>
+    requires ready { P.ready port.old }
+    ensures ready { P.ready port.new }
+    ensures follows { P.follows port.old port.new }
+    ensures goes_on { (start : List SoloEvent) (f : StreamSoFar) → IsStream start f (P.events port.old) → IfOk result (λ more. more ≡ true → IsStream start f (P.events port.new)) }
+    ensures none { (start : List SoloEvent) (f : StreamSoFar) → IsStream start f (P.events port.old) → IfOk result (λ more. more ≡ false → IsUnspoilt start f (P.events port.new)) }
+    ensures engine { (start : List SoloEvent) (f : StreamSoFar) → IsStream start f (P.events port.old) → IsErrOf result Stop.EngineFault → fault_finishes start < fault_finishes (P.events port.new) }
+    ensures payloads { OnOk result (KeepsCaptures (P.hold port.old) (P.hold port.new)) }
+    ensures bytes { bytes_out (P.events port.new) ≡ bytes_out (P.events port.old) }
+    ensures stops { IfErr result (λ stop. (stop ≢ Stop.ReadFault) × (stop ≢ Stop.WriteFault) × (stop ≢ Stop.TooLong)) }
+{
+    let call = Call::DqBuf {
+        side: Side::Out,
+        block: false,
+    };
+    match call_on(port, &call) {
+        Reply::Taken { flags, .. } => {
+            if is_failed(flags) {
+                Err(Stop::EngineFault)
+            } else {
+                Ok(true)
+            }
+        }
+        Reply::Refused {
+            errno: Errno::Again,
+        } => Ok(false),
+        _ => Err(Stop::NoMemory),
+    }
+}
+
+/// Takes all OUTPUT buffers that are done. No engine failed at one of them, or before.
+pub(crate) fn take_sources<P: PayloadPort>(port: &mut P) -> Result<(), Stop>
+    requires ready { P.ready port.old }
+    ensures ready { P.ready port.new }
+    ensures follows { P.follows port.old port.new }
+    ensures unspoilt { (start : List SoloEvent) (f : StreamSoFar) → IsStream start f (P.events port.old) → OnOk result (IsUnspoilt start f (P.events port.new)) }
+    ensures engine { (start : List SoloEvent) (f : StreamSoFar) → IsStream start f (P.events port.old) → IsErrOf result Stop.EngineFault → fault_finishes start < fault_finishes (P.events port.new) }
+    ensures payloads { OnOk result (KeepsCaptures (P.hold port.old) (P.hold port.new)) }
+    ensures bytes { bytes_out (P.events port.new) ≡ bytes_out (P.events port.old) }
+    ensures stops { IfErr result (λ stop. (stop ≢ Stop.ReadFault) × (stop ≢ Stop.WriteFault) × (stop ≢ Stop.TooLong)) }
+{
+    for _source in 0..OUT_BUFFERS + 1 {
+        match take_source(port) {
+            Ok(true) => {}
+            Ok(false) => return Ok(()),
+            Err(stop) => return Err(stop),
+        }
+    }
+    Err(Stop::NoMemory)
+}
