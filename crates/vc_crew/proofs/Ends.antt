@@ -37,7 +37,7 @@ ends_of fault worker (e ∷ es) = cond (is_end_of fault worker e) 1 0 + ends_of 
 
 -- The ends on one slot
 
-finishes-append : (fault : Bool) (xs ys : List SoloEntry) → finishes_by_fault fault (xs ++ ys) ≡ finishes_by_fault fault xs + finishes_by_fault fault ys
+pub finishes-append : (fault : Bool) (xs ys : List SoloEntry) → finishes_by_fault fault (xs ++ ys) ≡ finishes_by_fault fault xs + finishes_by_fault fault ys
 finishes-append fault [] ys = omega arith
 finishes-append fault (x ∷ xs) ys = let h = finishes-append fault xs ys in omega (arith, h)
 
@@ -56,7 +56,7 @@ told_once fault (finish worker ended) (Finished word) = just_one (same_bool faul
 told_once fault (finish worker ended) Nothing = none_more (cond (same_bool fault ended) 1 0)
 told_once fault shut r = none_more 0
 
-of_slot : (fault : Bool) (e : DeviceEvent) (r : SoloReply) (b : Bool) → finishes_by_fault fault (cond b (with_told r (solo_events_of e)) []) ≤ cond (is_end fault e) 1 0
+pub of_slot : (fault : Bool) (e : DeviceEvent) (r : SoloReply) (b : Bool) → finishes_by_fault fault (cond b (with_told r (solo_events_of e)) []) ≤ cond (is_end fault e) 1 0
 of_slot fault e r true = told_once fault e r
 of_slot fault e r false = none_more (cond (is_end fault e) 1 0)
 

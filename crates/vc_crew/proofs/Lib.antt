@@ -1,6 +1,9 @@
 pub mod Adding
+pub mod Alone
 pub mod Ends
 pub mod Helped
 pub mod Owners
+pub mod Pairs
+pub mod Several
 pub mod Shares
-pub mod Together
+pub mod Slots

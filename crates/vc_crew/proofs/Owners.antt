@@ -88,22 +88,29 @@ pub record StepIsHeld (ws : List WorkerState) (worker i : ℕ) : Type 0 where
   pub there : slice_get ws worker ≡ Some seat
   pub mine : list_any (λ j. j == i) seat.seat.mine ≡ true
 
-step_held : (h : HandleState) (ws : List WorkerState) (history : List DeviceEvent) (worker i : ℕ) (e : DeviceEvent) → AreInOrder ws → slice_get history i ≡ Some e → is_step_of worker e ≡ true → (held : HeldBy (owned_handle h ∷ map owned_worker ws) i) → IsSeatOf history held.seat → StepIsHeld ws worker i
-step_held h ws history worker i e order at own held is =
-    cases held.number held.there
-  where
-    may : may_add held.seat.owner e ≡ true
-    may = ap (adds_at held.seat.owner) (sym at) ∙ is.own i held.mine
+-- The seat of a step of a worker is one of the workers' seats.
+record IsOfWorkers (ws : List WorkerState) (o : OwnedSeat) : Type 0 where
+  place : ℕ
+  seat : WorkerState
+  there : slice_get ws place ≡ Some seat
+  same : owned_worker seat ≡ o
 
-    cases : (n : ℕ) → slice_get (owned_handle h ∷ map owned_worker ws) n ≡ Some held.seat → StepIsHeld ws worker i
-    cases zero there =
-        let same : owned_handle h ≡ held.seat = cc in
-        absurd (no_handle h.slot worker e own (ap (λ (o : OwnedSeat). may_add o.owner e) same ∙ may))
-    cases (suc n) there =
-        let w = worker_at ws n held.seat there in
-        let number : w.0.worker ≡ worker = same_worker worker w.0.worker e own (ap (λ (o : OwnedSeat). may_add o.owner e) w.2 ∙ may) in
-        let place : n ≡ worker = sym (order n w.0 w.1) ∙ number in
-        record { seat = w.0; there = subst (λ k. slice_get ws k ≡ Some w.0) place w.1; mine = ap (λ (o : OwnedSeat). list_any (λ j. j == i) o.seat.mine) w.2 ∙ held.mine }
+worker_among : (hs : List HandleState) (ws : List WorkerState) (n worker : ℕ) (o : OwnedSeat) (e : DeviceEvent) → is_step_of worker e ≡ true → may_add o.owner e ≡ true → slice_get (owned_seats hs ws) n ≡ Some o → IsOfWorkers ws o
+worker_among [] ws n worker o e own may at =
+    let w = worker_at ws n o at in
+    record { place = n; seat = w.0; there = w.1; same = w.2 }
+worker_among (h ∷ hs) ws zero worker o e own may at =
+    let same : owned_handle h ≡ o = cc in
+    absurd (no_handle h.slot worker e own (ap (λ (s : OwnedSeat). may_add s.owner e) same ∙ may))
+worker_among (h ∷ hs) ws (suc n) worker o e own may at = worker_among hs ws n worker o e own may at
+
+step_held : (hs : List HandleState) (ws : List WorkerState) (history : List DeviceEvent) (worker i : ℕ) (e : DeviceEvent) → AreInOrder ws → slice_get history i ≡ Some e → is_step_of worker e ≡ true → (held : HeldBy (owned_seats hs ws) i) → IsSeatOf history held.seat → StepIsHeld ws worker i
+step_held hs ws history worker i e order at own held is =
+    let may : may_add held.seat.owner e ≡ true = ap (adds_at held.seat.owner) (sym at) ∙ is.own i held.mine in
+    let w = worker_among hs ws held.number worker held.seat e own may held.there in
+    let number : w.seat.worker ≡ worker = same_worker worker w.seat.worker e own (ap (λ (o : OwnedSeat). may_add o.owner e) w.same ∙ may) in
+    let place : w.place ≡ worker = sym (order w.place w.seat w.there) ∙ number in
+    record { seat = w.seat; there = subst (λ k. slice_get ws k ≡ Some w.seat) place w.there; mine = ap (λ (o : OwnedSeat). list_any (λ j. j == i) o.seat.mine) w.same ∙ held.mine }
 
 within : (es : List DeviceEvent) (i : ℕ) (e : DeviceEvent) → slice_get es i ≡ Some e → i < length es
 within [] i e at = absurd (cc)
@@ -111,11 +118,11 @@ within (x ∷ xs) zero e at = omega arith
 within (x ∷ xs) (suc i) e at = let h = within xs i e at in omega (arith, h)
 
 -- Each step of a worker in the one history is an entry of the seat of that worker.
-pub each_step_held : (core : CoreState) (h : HandleState) (ws : List WorkerState) (closed : IsClosed core (h ∷ []) ws) → AreInOrder ws → (worker i : ℕ) (e : DeviceEvent) → slice_get closed.history i ≡ Some e → is_step_of worker e ≡ true → StepIsHeld ws worker i
-each_step_held core h ws closed order worker i e at own =
-    let count : count_position (all_mine (owned_seats (h ∷ []) ws)) i ≡ 1 = closed.one.once i ∙ ap (λ b. cond b 1 0) (lt-ltb i (length closed.history) (within closed.history i e at)) in
-    let held = held_by (owned_seats (h ∷ []) ws) i (omega (arith, count)) in
-    step_held h ws closed.history worker i e order at own held (seat_at closed.history (owned_seats (h ∷ []) ws) held.number held.seat closed.one.owned held.there)
+pub each_step_held : (core : CoreState) (hs : List HandleState) (ws : List WorkerState) (closed : IsClosed core hs ws) → AreInOrder ws → (worker i : ℕ) (e : DeviceEvent) → slice_get closed.history i ≡ Some e → is_step_of worker e ≡ true → StepIsHeld ws worker i
+each_step_held core hs ws closed order worker i e at own =
+    let count : count_position (all_mine (owned_seats hs ws)) i ≡ 1 = closed.one.once i ∙ ap (λ b. cond b 1 0) (lt-ltb i (length closed.history) (within closed.history i e at)) in
+    let held = held_by (owned_seats hs ws) i (omega (arith, count)) in
+    step_held hs ws closed.history worker i e order at own held (seat_at closed.history (owned_seats hs ws) held.number held.seat closed.one.owned held.there)
 
 -- What a worker's seat has seen has all steps of the worker
 
@@ -158,8 +165,8 @@ get_behind (x ∷ xs) ys j =
     ap (slice_get (x ∷ (xs ++ ys))) n ∙ get_behind xs ys j
 
 -- a worker has no step in the one history that its seat hasn't seen
-pub all_steps_seen : (core : CoreState) (h : HandleState) (ws : List WorkerState) (closed : IsClosed core (h ∷ []) ws) → AreInOrder ws → (worker : ℕ) (s : WorkerState) → slice_get ws worker ≡ Some s → steps_at worker s.seat.seen ≡ s.seat.mine → (p : IsPrefix s.seat.seen closed.history) → steps_at worker closed.history ≡ steps_at worker s.seat.seen
-all_steps_seen core h ws closed order worker s at own p =
+pub all_steps_seen : (core : CoreState) (hs : List HandleState) (ws : List WorkerState) (closed : IsClosed core hs ws) → AreInOrder ws → (worker : ℕ) (s : WorkerState) → slice_get ws worker ≡ Some s → steps_at worker s.seat.seen ≡ s.seat.mine → (p : IsPrefix s.seat.seen closed.history) → steps_at worker closed.history ≡ steps_at worker s.seat.seen
+all_steps_seen core hs ws closed order worker s at own p =
     let own_of = is_step_of worker in
     let none : positions_from own_of (0 + length s.seat.seen) p.0 ≡ [] = none_pass own_of (0 + length s.seat.seen) p.0 later in
     ap (steps_at worker) (sym p.1) ∙ (positions-append own_of 0 s.seat.seen p.0 ∙ (ap (λ l. steps_at worker s.seat.seen ++ l) none ∙ append-nil (steps_at worker s.seat.seen)))
@@ -168,8 +175,19 @@ all_steps_seen core h ws closed order worker s at own p =
     later j e there is =
         let i = length s.seat.seen + j in
         let found : slice_get closed.history i ≡ Some e = ap (λ l. slice_get l i) (sym p.1) ∙ (get_behind s.seat.seen p.0 j ∙ there) in
-        let held = each_step_held core h ws closed order worker i e found is in
+        let held = each_step_held core hs ws closed order worker i e found is in
         let same : held.seat ≡ s = cc (held.there, at) in
         let mine : list_any (λ k. k == i) (steps_at worker s.seat.seen) ≡ true = ap (list_any (λ k. k == i)) own ∙ (ap (λ (w : WorkerState). list_any (λ k. k == i) w.seat.mine) (sym same) ∙ held.mine) in
         let low = below_end (is_step_of worker) 0 i s.seat.seen mine in
         absurd (omega (arith, low))
+
+-- the seat of a worker among all seats
+pub worker_behind : (hs : List HandleState) (ws : List WorkerState) (n : ℕ) (s : WorkerState) → slice_get ws n ≡ Some s → slice_get (owned_seats hs ws) (length hs + n) ≡ Some (owned_worker s)
+worker_behind [] [] n s at = absurd (cc)
+worker_behind [] (w ∷ ws) zero s at = let same : w ≡ s = cc in ap (λ x. Some (owned_worker x)) same
+worker_behind [] (w ∷ ws) (suc n) s at =
+    let k : 0 + suc n ≡ suc (0 + n) = omega arith in
+    ap (slice_get (owned_seats [] (w ∷ ws))) k ∙ worker_behind [] ws n s at
+worker_behind (h ∷ hs) ws n s at =
+    let k : length (h ∷ hs) + n ≡ suc (length hs + n) = omega arith in
+    ap (slice_get (owned_seats (h ∷ hs) ws)) k ∙ worker_behind hs ws n s at

@@ -1,23 +1,23 @@
 //! One caller beside workers.
 
-ghost use Rattle.std.specs.Prelude.{◌≡◌, ◌≤◌, ℕ, [], IfOk, IfErr, map, take, drop, vec_len, length, None};
-ghost use Rattle.vc_shared.specs.Handles.{device_at, new_handle};
-ghost use Rattle.vc_shared.specs.Making.{AreNewHandles, AreNewWorkers};
+ghost use Rattle.std.specs.Prelude.{◌≡◌, ◌≤◌, ◌∷◌, [], ℕ, IfOk, IfErr, map, take, drop, vec_len, vec_capacity};
+ghost use Rattle.vc_shared.specs.Making.{AreNewWorkers};
 ghost use Rattle.vc_crew.specs.Workers.{HaveWorked};
-ghost use Rattle.vc_crew.specs.Flowing.{HasFlowed};
+ghost use Rattle.vc_crew.specs.Flowing.{ArePaired, MayFlow, HasFlowed};
 ghost use Rattle.vc_crew.specs.Beside.{RanBeside};
+ghost use Rattle.vc_crew.specs.Sites.{device_of};
 
-use crate::calling::Caller;
+use crate::caller::Caller;
+use crate::calling::{Context, Done};
 use crate::crew::{Crew, Run, run_crew};
 use crate::flow::Flow;
+use crate::site::{Opened, Site, close_site, open_site};
 use std::alloc::Global;
 use std::sync::Wait;
-use std::sync::atomic::AtomicBool;
 use std::thread::Threads;
 use std::{mem, thread};
 use vc_base::NoMemory;
 use vc_core::Engine;
-use vc_shared::{HandleSeat, JobSeat, Shared};
 
 /// A flow behind its run, and how it ended.
 #[derive(Drop)]
@@ -26,80 +26,38 @@ pub struct Ended<F: Flow> {
     pub flow: F,
 }
 
-/// A device of one slot as it is made, and a flag for each worker, which says that its start was refused.
-#[derive(Drop)]
-struct Site {
-    shared: Shared,
-    handles: Vec<HandleSeat>,
-    jobs: Vec<JobSeat>,
-    refused: Vec<AtomicBool>,
-}
-
-/// So many flags.
-fn make_flags(alloc: Global, number: u32) -> Result<Vec<AtomicBool>, NoMemory>
-    ensures { IfOk result (λ flags. vec_len flags ≡ number) }
-{
-    let mut flags = Vec::new(alloc);
-    for _flag in 0..number {
-        if flags.push(AtomicBool::new(false)).is_err() {
-            return Err(NoMemory);
-        }
-    }
-    Ok(flags)
-}
-
-fn make_site(alloc: Global, workers: u32) -> Result<Site, NoMemory>
-    requires { (1 ≤ workers) × (workers ≤ 16) }
-    ensures handles { IfOk result (λ site. AreNewHandles (device_at site.shared 1 workers) 1 site.handles.items) }
-    ensures workers { IfOk result (λ site. AreNewWorkers (device_at site.shared 1 workers) workers site.jobs.items) }
-    ensures refused { IfOk result (λ site. vec_len site.refused ≡ workers) }
-{
-    let (shared, handles, jobs) = Shared::make(alloc, 1, workers)?;
-    let refused = make_flags(alloc, workers)?;
-    Ok(Site {
-        shared,
-        handles,
-        jobs,
-        refused,
-    })
-}
-
-/// Runs the flow beside the workers, in a scope that ends when all threads have ended.
+/// Runs the caller beside the workers, in a scope that ends when all threads have ended.
 fn run_scope<R: Threads + Wait + Sync, E: Engine + Send, F: Flow>(
     rt: &R,
     alloc: Global,
-    shared: &Shared,
-    refused: &[AtomicBool],
+    site: &Site,
     crew: Crew<E>,
-    handle: HandleSeat,
-    flow: F,
+    caller: Caller<E, F>,
 ) -> Run<E, F>
-    requires lock { handle.device.lock ≡ shared.now }
-    requires first { handle ≡ new_handle handle.device 0 }
-    requires new { AreNewWorkers handle.device (vec_len crew.jobs) crew.jobs.items }
+    requires new { AreNewWorkers (device_of site.now) (vec_len crew.jobs) crew.jobs.items }
     requires engines { vec_len crew.jobs ≤ vec_len crew.engines }
-    requires refused { vec_len crew.jobs ≤ length refused.now }
-    requires may { F.may flow }
-    ensures worked { HaveWorked E.run_count E.fault_count handle.device 0 result.crew.jobs.items crew.engines.items result.crew.engines.items }
+    requires refused { vec_len crew.jobs ≤ vec_len site.now.refused_workers }
+    requires may { All (λ c. MayFlow F.may (device_of site.now) c.handle c.flow) caller.contexts.items }
+    requires none { caller.done.items ≡ [] }
+    requires room { vec_len caller.contexts ≤ vec_capacity caller.done }
+    requires help { caller.help ≡ None }
+    ensures worked { HaveWorked E.run_count E.fault_count (device_of site.now) 0 result.crew.jobs.items crew.engines.items result.crew.engines.items }
     ensures jobs { vec_len result.crew.jobs ≡ vec_len crew.jobs }
     ensures engines { vec_len result.crew.engines ≡ vec_len crew.engines }
-    ensures flowed { HasFlowed F.does flow result.called.flow result.called.end handle result.called.handle }
+    ensures flowed { ArePaired (λ c d. HasFlowed F.does c.flow d.flow d.end c.handle d.handle) caller.contexts.items result.called.done.items }
+    ensures all { vec_len result.called.done ≡ vec_len caller.contexts }
 {
-    let caller = Caller {
-        handle,
-        help: None,
-        flow,
-    };
     thread::scope(
         thread::scope_env(),
         rt,
         move |scope| -> Run<E, F>
-            requires { (caller.handle.device.lock ≡ shared.now) × (caller.handle ≡ new_handle caller.handle.device 0) × AreNewWorkers caller.handle.device (vec_len crew.jobs) crew.jobs.items × (vec_len crew.jobs ≤ vec_len crew.engines) × (vec_len crew.jobs ≤ length refused.now) × (caller.help ≡ None) × F.may caller.flow }
-            ensures worked { HaveWorked E.run_count E.fault_count caller.handle.device 0 result.crew.jobs.items crew.engines.items result.crew.engines.items }
+            requires { AreNewWorkers (device_of site.now) (vec_len crew.jobs) crew.jobs.items × (vec_len crew.jobs ≤ vec_len crew.engines) × (vec_len crew.jobs ≤ vec_len site.now.refused_workers) × All (λ c. MayFlow F.may (device_of site.now) c.handle c.flow) caller.contexts.items × (caller.done.items ≡ []) × (vec_len caller.contexts ≤ vec_capacity caller.done) × (caller.help ≡ None) }
+            ensures worked { HaveWorked E.run_count E.fault_count (device_of site.now) 0 result.crew.jobs.items crew.engines.items result.crew.engines.items }
             ensures jobs { vec_len result.crew.jobs ≡ vec_len crew.jobs }
             ensures engines { vec_len result.crew.engines ≡ vec_len crew.engines }
-            ensures flowed { HasFlowed F.does caller.flow result.called.flow result.called.end caller.handle result.called.handle }
-        { run_crew(scope, rt, alloc, shared, refused, crew, caller) },
+            ensures flowed { ArePaired (λ c d. HasFlowed F.does c.flow d.flow d.end c.handle d.handle) caller.contexts.items result.called.done.items }
+            ensures all { vec_len result.called.done ≡ vec_len caller.contexts }
+        { run_crew(scope, rt, alloc, site, crew, caller) },
     )
 }
 
@@ -124,30 +82,32 @@ pub fn run_beside<R: Threads + Wait + Sync, E: Engine + Send, F: Flow>(
     ensures crew { vec_len engines.new ≡ vec_len engines.old }
     ensures others { drop workers engines.new.items ≡ drop workers engines.old.items }
 {
-    let Ok(site) = make_site(alloc, workers) else {
+    let (Ok(opened), Ok(caller)) = (open_site(alloc, 1, workers), Caller::make(alloc, 1)) else {
         let end = Err(NoMemory);
         return Ended { end, flow };
     };
-    let Site {
-        shared,
+    let Opened {
+        site,
         mut handles,
         jobs,
-        refused,
-    } = site;
+    } = opened;
     let Some(handle) = handles.pop() else {
         unreachable!()
     };
+    let caller = caller.with_context(Context { handle, flow });
     let crew = Crew {
         jobs,
         engines: mem::replace(engines, Vec::new(alloc)),
     };
-    let run = run_scope(rt, alloc, &shared, &refused, crew, handle, flow);
+    let run = run_scope(rt, alloc, &site, crew, caller);
     let Run { crew, called } = run;
     *engines = crew.engines;
-    handles.push_reserved(called.handle);
-    let _core = shared.close(handles, crew.jobs);
-    Ended {
-        end: Ok(called.end),
-        flow: called.flow,
-    }
+    let mut done = called.done;
+    let Some(only) = done.pop() else {
+        unreachable!()
+    };
+    let Done { handle, flow, end } = only;
+    handles.push_reserved(handle);
+    let _core = close_site(site, handles, crew.jobs);
+    Ended { end: Ok(end), flow }
 }

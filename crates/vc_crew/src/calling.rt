@@ -1,37 +1,45 @@
-//! The caller's part.
+//! How a flow is run on its slot.
 
 ghost use Rattle.std.specs.Prelude.{◌≡◌, None, Some, MatchOption};
-ghost use Rattle.vc_port.specs.Payloads.{slot_after};
-ghost use Rattle.vc_shared.specs.Handles.{slot_events, IsHandle};
+ghost use Rattle.vc_shared.specs.Handles.{IsHandle};
+ghost use Rattle.vc_shared.specs.Following.{HandleFollows};
 ghost use Rattle.vc_shared.specs.Workers.{IsWorker};
 ghost use Rattle.vc_shared.specs.AsStation.{station_job};
 ghost use Rattle.vc_worker.specs.Both.{Both, IfThere};
 ghost use Rattle.vc_crew.specs.Workers.{HasWorked};
-ghost use Rattle.vc_crew.specs.Flowing.{HasFlowed};
+ghost use Rattle.vc_crew.specs.Flowing.{MayFlow, HasFlowed};
+ghost use Rattle.vc_crew.specs.Sites.{device_of};
 
 use crate::flow::Flow;
+use crate::site::Site;
 use crate::worker::{Worker, steady};
 use std::alloc::Global;
 use std::sync::Wait;
+use std::sync::atomic::{AtomicU32, Ordering};
 use vc_core::Engine;
 use vc_shared::{Handle, HandleSeat, Shared, WorkerSeat};
 use vc_worker::{Help, Helping};
 
-/// The caller before its flow: the seat of its slot, and a worker whose thread could not be started, if there is one.
+/// A flow that has not been run, with the seat of its slot.
 #[derive(Drop)]
-pub(crate) struct Caller<E: Engine, F: Flow> {
+pub(crate) struct Context<F: Flow> {
     pub(crate) handle: HandleSeat,
-    pub(crate) help: Option<Worker<E>>,
     pub(crate) flow: F,
 }
 
-/// The caller behind its flow.
+/// A flow that was run, with the seat of its slot.
 #[derive(Drop)]
-pub(crate) struct Called<E: Engine, F: Flow> {
+pub(crate) struct Done<F: Flow> {
     pub(crate) handle: HandleSeat,
-    pub(crate) help: Option<Worker<E>>,
     pub(crate) flow: F,
     pub(crate) end: F::End,
+}
+
+/// A flow that the caller ran, and the worker that helped it.
+#[derive(Drop)]
+pub(crate) struct Helped<E: Engine, F: Flow> {
+    pub(crate) done: Done<F>,
+    pub(crate) help: Option<Worker<E>>,
 }
 
 /// The port of the caller, which runs jobs by the idle worker while it waits.
@@ -76,52 +84,55 @@ fn worker_of<'a, R: Wait + Sync, E: Engine>(
     }
 }
 
-/// Runs the flow on the slot, and then shuts the device.
-pub(crate) fn run_flow<R: Wait + Sync, E: Engine, F: Flow>(
-    rt: &R,
-    alloc: Global,
-    shared: &Shared,
-    caller: Caller<E, F>,
-) -> Called<E, F>
-    requires lock { caller.handle.device.lock ≡ shared.now }
-    requires closed { slot_after (slot_events caller.handle) ≡ None }
-    requires help { IfThere (λ w. (w.seat.device.lock ≡ shared.now) × (station_job w.seat ≡ None)) caller.help }
-    requires may { F.may caller.flow }
-    ensures flowed { HasFlowed F.does caller.flow result.flow result.end caller.handle result.handle }
-    ensures helped { Both (λ x y. HasWorked x.seat y.seat (E.run_count x.engine) (E.run_count y.engine) (E.fault_count x.engine) (E.fault_count y.engine)) caller.help result.help }
+/// Leaves the device behind a flow. The last one shuts it.
+fn leave<'a, R: Wait + Sync>(port: Handle<'a, R>, left: &AtomicU32) -> HandleSeat
+    ensures { HandleFollows port.entry result }
 {
-    let Caller { handle, help, flow } = caller;
-    let mut flow = flow;
-    let mut helping = port_of(rt, shared, handle, help);
-    let end = flow.run(rt, alloc, &mut helping);
-    let Helping { port, help } = helping;
     let mut port = port;
-    port.shut();
-    let help = worker_of(rt, shared, help);
-    Called {
-        handle: port.into_seat(),
-        help,
-        flow,
-        end,
+    if left.fetch_sub(1, Ordering::SeqCst) == 1 {
+        port.shut();
     }
+    port.into_seat()
 }
 
-impl<E: Engine, F: Flow> Caller<E, F> {
-    /// The caller with an idle worker in place of its help.
-    pub(crate) fn with_help(self, worker: Worker<E>) -> Caller<E, F>
-        ensures same { result ≡ record self { help = Some worker } }
-        ensures handle { result.handle ≡ self.handle }
-        ensures help { result.help ≡ Some worker }
-    {
-        let Caller {
-            handle,
-            help: _,
-            flow,
-        } = self;
-        Caller {
-            handle,
-            help: Some(worker),
-            flow,
-        }
-    }
+/// Runs the flow on its slot, without help.
+pub(crate) fn run_alone<R: Wait + Sync, F: Flow>(
+    rt: &R,
+    alloc: Global,
+    site: &Site,
+    context: Context<F>,
+) -> Done<F>
+    requires { MayFlow F.may (device_of site.now) context.handle context.flow }
+    ensures { HasFlowed F.does context.flow result.flow result.end context.handle result.handle }
+{
+    let Context { handle, flow } = context;
+    let mut flow = flow;
+    let mut port = Handle::new(rt, &site.shared, handle);
+    let end = flow.run(rt, alloc, &mut port);
+    let handle = leave(port, &site.left);
+    Done { handle, flow, end }
+}
+
+/// Runs the flow on its slot, with the help of the worker if there is one.
+pub(crate) fn run_helped<R: Wait + Sync, E: Engine, F: Flow>(
+    rt: &R,
+    alloc: Global,
+    site: &Site,
+    context: Context<F>,
+    help: Option<Worker<E>>,
+) -> Helped<E, F>
+    requires may { MayFlow F.may (device_of site.now) context.handle context.flow }
+    requires help { IfThere (λ w. (w.seat.device.lock ≡ site.now.shared) × (station_job w.seat ≡ None)) help }
+    ensures flowed { HasFlowed F.does context.flow result.done.flow result.done.end context.handle result.done.handle }
+    ensures helped { Both (λ x y. HasWorked x.seat y.seat (E.run_count x.engine) (E.run_count y.engine) (E.fault_count x.engine) (E.fault_count y.engine)) help result.help }
+{
+    let Context { handle, flow } = context;
+    let mut flow = flow;
+    let mut helping = port_of(rt, &site.shared, handle, help);
+    let end = flow.run(rt, alloc, &mut helping);
+    let Helping { port, help } = helping;
+    let help = worker_of(rt, &site.shared, help);
+    let handle = leave(port, &site.left);
+    let done = Done { handle, flow, end };
+    Helped { done, help }
 }

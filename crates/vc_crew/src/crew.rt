@@ -1,24 +1,24 @@
-//! The crew: one worker after another is started, the caller's flow is run, and then all are joined.
+//! The crew: one worker after another is started, the caller does its part, and then all are joined.
 
-ghost use Rattle.std.specs.Prelude.{◌≡◌, ◌≤◌, ◌<◌, ◌+◌, ◌++◌, ◌∷◌, [], ℕ, None, Some, IfNone, IfSome, MatchOption, vec_len, vec_capacity, length};
-ghost use Rattle.vc_port.specs.Payloads.{slot_after};
-ghost use Rattle.vc_shared.specs.Handles.{DeviceId, slot_events};
+ghost use Rattle.std.specs.Prelude.{◌≡◌, ◌≤◌, ◌<◌, ◌+◌, ◌++◌, ◌∷◌, [], ℕ, None, Some, IfNone, IfSome, All, vec_len, vec_capacity};
+ghost use Rattle.vc_shared.specs.Handles.{DeviceId};
 ghost use Rattle.vc_shared.specs.Workers.{new_worker};
 ghost use Rattle.vc_shared.specs.AsStation.{station_job};
 ghost use Rattle.vc_shared.specs.Making.{AreNewWorkers};
 ghost use Rattle.vc_worker.specs.Both.{Both, IfThere};
 ghost use Rattle.vc_crew.specs.Workers.{HasWorked, HaveWorked};
-ghost use Rattle.vc_crew.specs.Flowing.{HasFlowed};
+ghost use Rattle.vc_crew.specs.Flowing.{ArePaired, MayFlow, HasFlowed};
+ghost use Rattle.vc_crew.specs.Sites.{device_of};
 
-use crate::calling::{Called, Caller, run_flow};
+use crate::caller::{Called, Caller, run_caller};
 use crate::flow::Flow;
+use crate::site::Site;
 use crate::worker::{Worker, start};
 use std::alloc::Global;
 use std::sync::Wait;
-use std::sync::atomic::AtomicBool;
 use std::thread::{Scope, Threads};
 use vc_core::Engine;
-use vc_shared::{JobSeat, Shared};
+use vc_shared::JobSeat;
 
 /// The seats of the workers, and the engines: one for each worker, and more behind them, which are not used.
 #[derive(Drop)]
@@ -27,7 +27,7 @@ pub(crate) struct Crew<E: Engine> {
     pub(crate) engines: Vec<E>,
 }
 
-/// All behind the flow.
+/// The crew and the caller behind their work.
 #[derive(Drop)]
 pub(crate) struct Run<E: Engine, F: Flow> {
     pub(crate) crew: Crew<E>,
@@ -92,20 +92,11 @@ impl<E: Engine, F: Flow> Run<E, F> {
         ensures jobs_room { vec_capacity result.crew.jobs ≡ vec_capacity self.crew.jobs }
         ensures engines_room { vec_capacity result.crew.engines ≡ vec_capacity self.crew.engines }
         ensures called { result.called ≡ record self.called { help = None } }
+        ensures done { result.called.done ≡ self.called.done }
     {
         let Run { crew, called } = self;
-        let Called {
-            handle,
-            help,
-            flow,
-            end,
-        } = called;
-        let called = Called {
-            handle,
-            help: None,
-            flow,
-            end,
-        };
+        let Called { done, help } = called;
+        let called = Called { done, help: None };
         let run = Run { crew, called };
         match help {
             Some(worker) => run.with_worker(worker),
@@ -114,63 +105,64 @@ impl<E: Engine, F: Flow> Run<E, F> {
     }
 }
 
-/// Starts the workers, the last one first, runs the flow, and joins all. Where a worker's thread can't be started, the
-/// first such worker helps the caller. Engines behind those of the workers are kept apart.
+/// Starts the workers, the last one first, lets the caller do its part, and joins all. Where a worker's thread can't be
+/// started, the first such worker helps the caller. Engines behind those of the workers are kept apart.
 pub(crate) fn run_crew<'s, C, R: Threads + Wait + Sync, E: Engine + Send + 's, F: Flow>(
     scope: &Scope<'s, C>,
     rt: &'s R,
     alloc: Global,
-    shared: &'s Shared,
-    refused: &'s [AtomicBool],
+    site: &'s Site,
     crew: Crew<E>,
     caller: Caller<E, F>,
 ) -> Run<E, F>
-    requires lock { caller.handle.device.lock ≡ shared.now }
-    requires closed { slot_after (slot_events caller.handle) ≡ None }
-    requires new { AreNewWorkers caller.handle.device (vec_len crew.jobs) crew.jobs.items }
+    requires new { AreNewWorkers (device_of site.now) (vec_len crew.jobs) crew.jobs.items }
     requires engines { vec_len crew.jobs ≤ vec_len crew.engines }
-    requires refused { vec_len crew.jobs ≤ length refused.now }
-    requires help { IfThere (λ w. (w.seat.device.lock ≡ shared.now) × (station_job w.seat ≡ None)) caller.help }
-    requires may { F.may caller.flow }
-    ensures worked { HaveWorked E.run_count E.fault_count caller.handle.device 0 result.crew.jobs.items crew.engines.items result.crew.engines.items }
+    requires refused { vec_len crew.jobs ≤ vec_len site.now.refused_workers }
+    requires may { All (λ c. MayFlow F.may (device_of site.now) c.handle c.flow) caller.contexts.items }
+    requires none { caller.done.items ≡ [] }
+    requires room { vec_len caller.contexts ≤ vec_capacity caller.done }
+    requires help { IfThere (λ w. (w.seat.device.lock ≡ site.now.shared) × (station_job w.seat ≡ None)) caller.help }
+    ensures worked { HaveWorked E.run_count E.fault_count (device_of site.now) 0 result.crew.jobs.items crew.engines.items result.crew.engines.items }
     ensures jobs { vec_len result.crew.jobs ≡ vec_len crew.jobs }
     ensures engines { vec_len result.crew.engines ≡ vec_len crew.engines }
     ensures jobs_room { vec_capacity result.crew.jobs ≡ vec_capacity crew.jobs }
     ensures engines_room { vec_capacity result.crew.engines ≡ vec_capacity crew.engines }
     ensures helped { Both (λ x y. HasWorked x.seat y.seat (E.run_count x.engine) (E.run_count y.engine) (E.fault_count x.engine) (E.fault_count y.engine)) caller.help result.called.help }
-    ensures flowed { HasFlowed F.does caller.flow result.called.flow result.called.end caller.handle result.called.handle }
+    ensures flowed { ArePaired (λ c d. HasFlowed F.does c.flow d.flow d.end c.handle d.handle) caller.contexts.items result.called.done.items }
+    ensures all { vec_len result.called.done ≡ vec_len caller.contexts }
+    ensures room { vec_capacity result.called.done ≡ vec_capacity caller.done }
 {
     let Crew { jobs, engines } = crew;
     let mut jobs = jobs;
     let mut engines = engines;
     let is_spare = engines.len() > jobs.len();
     let Some(engine) = engines.pop() else {
-        let called = run_flow(rt, alloc, shared, caller);
+        let called = run_caller(rt, alloc, site, caller);
         let crew = Crew { jobs, engines };
         return Run { crew, called };
     };
     if is_spare {
         let crew = Crew { jobs, engines };
-        let run = run_crew(scope, rt, alloc, shared, refused, crew, caller);
+        let run = run_crew(scope, rt, alloc, site, crew, caller);
         return run.with_engine(engine);
     }
     let Some(seat) = last_seat(&mut jobs) else {
         unreachable!()
     };
-    let is_refused = &refused[jobs.len()];
+    let is_refused = &site.refused_workers[jobs.len()];
     let crew = Crew { jobs, engines };
-    match start(scope, rt, shared, is_refused, seat, engine) {
+    match start(scope, rt, &site.shared, is_refused, seat, engine) {
         Ok(started) => {
-            let run = run_crew(scope, rt, alloc, shared, refused, crew, caller);
+            let run = run_crew(scope, rt, alloc, site, crew, caller);
             run.with_worker(started.join(rt))
         }
         Err(idle) if caller.help.is_some() => {
-            let run = run_crew(scope, rt, alloc, shared, refused, crew, caller);
+            let run = run_crew(scope, rt, alloc, site, crew, caller);
             run.with_worker(idle)
         }
         Err(idle) => {
             let caller = caller.with_help(idle);
-            let run = run_crew(scope, rt, alloc, shared, refused, crew, caller);
+            let run = run_crew(scope, rt, alloc, site, crew, caller);
             run.with_help()
         }
     }

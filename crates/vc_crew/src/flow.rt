@@ -5,13 +5,14 @@ ghost use Rattle.vc_model.specs.Solo.{SoloEvent};
 ghost use Rattle.vc_port.specs.Payloads.{slot_after};
 
 use std::alloc::Global;
+use std::marker::Send;
 use std::sync::Wait;
 use vc_port::PayloadPort;
 
 /// What a caller does on one slot of the device, over any port of it. The slot is closed before and after.
 pub trait Flow: Drop {
     /// How it ends.
-    type End: Drop;
+    type End: Drop + Send;
 
     /// What holds of a flow that may be run.
     ghost may: { Self → Type 0 };

@@ -43,9 +43,26 @@ pub(crate) fn steady<R>(rt: &R, shared: &Shared, seat: JobSeat) -> JobSeat
     WorkerSeat::new(rt, shared, seat).into_seat()
 }
 
+/// Serves the device until it is shut.
+pub(crate) fn serve_on<R: Wait + Sync, E: Engine>(
+    rt: &R,
+    shared: &Shared,
+    worker: Worker<E>,
+) -> Worker<E>
+    requires own { worker.seat.device.lock ≡ shared.now }
+    requires idle { station_job worker.seat ≡ None }
+    ensures { HasWorked worker.seat result.seat (E.run_count worker.engine) (E.run_count result.engine) (E.fault_count worker.engine) (E.fault_count result.engine) }
+{
+    let Worker { seat, engine } = worker;
+    let station = WorkerSeat::new(rt, shared, seat);
+    let Served { station, engine } = serve(rt, station, engine);
+    let seat = steady(rt, shared, station.into_seat());
+    Worker { seat, engine }
+}
+
 /// Serves the device until it is shut. Where the start of the worker's thread was refused, it gives everything back
 /// at once.
-pub(crate) fn work<R: Wait + Sync, E: Engine>(
+fn work<R: Wait + Sync, E: Engine>(
     rt: &R,
     shared: &Shared,
     is_refused: &AtomicBool,
@@ -60,10 +77,7 @@ pub(crate) fn work<R: Wait + Sync, E: Engine>(
         let seat = steady(rt, shared, seat);
         return Worker { seat, engine };
     }
-    let station = WorkerSeat::new(rt, shared, seat);
-    let Served { station, engine } = serve(rt, station, engine);
-    let seat = steady(rt, shared, station.into_seat());
-    Worker { seat, engine }
+    serve_on(rt, shared, Worker { seat, engine })
 }
 
 /// Starts the thread of a worker. Where no thread can be started, the worker comes back as it was.

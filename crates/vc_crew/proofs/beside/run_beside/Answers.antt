@@ -1,7 +1,7 @@
 use Rattle.std.proofs.Common.{◌≡◌, ◌+◌, ◌++◌, ◌∷◌, [], List, ℕ, length, vec_len, vec_items, sym, ap, ◌∙◌, arith}
 use Rattle.vc_shared.specs.Handles.{DeviceId, HandleState, device_at, new_handle}
 use Rattle.vc_crew.proofs.Adding.{new_workers, only_handle, handles_of, same_device}
-use Rattle.vc_crew.proofs.Together.{all_ran, others_kept, closed_workers}
+use Rattle.vc_crew.proofs.Alone.{all_ran, others_kept, closed_workers}
 use Rattle.vc_crew.proofs.beside.run_beside.Goals as goal
 
 pub run_scope-run-requires-clause-new : goal.run_scope-run-requires-clause-new

@@ -20,13 +20,13 @@ use Rattle.vc_crew.specs.Workers.{HasWorked, HaveWorked}
 use Rattle.vc_crew.specs.Flowing.{HasFlowed}
 use Rattle.vc_crew.specs.Beside.{RanBeside}
 use Rattle.vc_crew.proofs.Ends.{ends, ends_of, backs, backs_are_ends, ends_on_slot, ends_grow}
-use Rattle.vc_crew.proofs.Owners.{AreInOrder, seat_at, each_step_held, all_steps_seen}
+use Rattle.vc_crew.proofs.Owners.{AreInOrder, seat_at, each_step_held, all_steps_seen, worker_behind}
 use Rattle.vc_crew.proofs.Shares.{shares_of, AreOfWorkers, shares_are_enough, AreGivenBack, runs_rose, faults_rose}
 
 -- what is known of the worker at a place
-record WorkedAt (device : DeviceId) (number : ℕ) (s : WorkerState) : Type 0 where
-  follows : WorkerFollows (new_worker device number) s
-  ready : IsWorker s
+pub record WorkedAt (device : DeviceId) (number : ℕ) (s : WorkerState) : Type 0 where
+  pub follows : WorkerFollows (new_worker device number) s
+  pub ready : IsWorker s
 
 worked_at_place : {E : Type 0} (runs faults : E → ℕ) (device : DeviceId) (number : ℕ) (ws : List WorkerState) (es es' : List E) → HaveWorked runs faults device number ws es es' → (n : ℕ) (s : WorkerState) → slice_get ws n ≡ Some s → WorkedAt device (number + n) s
 worked_at_place runs faults device number [] es es' have n s at = absurd (cc)
@@ -41,7 +41,7 @@ worked_at_place runs faults device number (w ∷ ws) (e ∷ es) (e' ∷ es') hav
     subst (λ m. WorkedAt device m s) k (worked_at_place runs faults device (number + 1) ws es es' have.1 n s at)
 
 -- from number 0 on
-first_worked : {E : Type 0} (runs faults : E → ℕ) (device : DeviceId) (ws : List WorkerState) (es es' : List E) → HaveWorked runs faults device 0 ws es es' → (n : ℕ) (s : WorkerState) → slice_get ws n ≡ Some s → WorkedAt device n s
+pub first_worked : {E : Type 0} (runs faults : E → ℕ) (device : DeviceId) (ws : List WorkerState) (es es' : List E) → HaveWorked runs faults device 0 ws es es' → (n : ℕ) (s : WorkerState) → slice_get ws n ≡ Some s → WorkedAt device n s
 first_worked runs faults device ws es es' have n s at =
     let k : 0 + n ≡ n = omega arith in
     subst (λ m. WorkedAt device m s) k (worked_at_place runs faults device 0 ws es es' have n s at)
@@ -61,33 +61,28 @@ others_stay runs faults device number (w ∷ ws) (e ∷ es) [] have = absurd hav
 others_stay runs faults device number (w ∷ ws) (e ∷ es) (e' ∷ es') have =
     others_stay runs faults device (number + 1) ws es es' have.1
 
-owned_at : (ws : List WorkerState) (n : ℕ) (s : WorkerState) → slice_get ws n ≡ Some s → slice_get (map owned_worker ws) n ≡ Some (owned_worker s)
-owned_at [] n s at = absurd (cc)
-owned_at (w ∷ ws) zero s at = let same : w ≡ s = cc in ap (λ x. Some (owned_worker x)) same
-owned_at (w ∷ ws) (suc n) s at = owned_at ws n s at
-
 is_below : (ws : List WorkerState) (n : ℕ) (s : WorkerState) → slice_get ws n ≡ Some s → n < length ws
 is_below [] n s at = absurd (cc)
 is_below (w ∷ ws) zero s at = omega arith
 is_below (w ∷ ws) (suc n) s at = let h = is_below ws n s at in omega (arith, h)
 
 -- what a worker ended in the one history is what it gave back
-given_back : (core : CoreState) (h : HandleState) (ws : List WorkerState) (closed : IsClosed core (h ∷ []) ws) (device : DeviceId) → ((n : ℕ) (s : WorkerState) → slice_get ws n ≡ Some s → WorkedAt device n s) → AreGivenBack closed.history 0 ws
-given_back core h ws closed device known n s fault at =
+pub given_back : (core : CoreState) (hs : List HandleState) (ws : List WorkerState) (closed : IsClosed core hs ws) (device : DeviceId) → ((n : ℕ) (s : WorkerState) → slice_get ws n ≡ Some s → WorkedAt device n s) → AreGivenBack closed.history 0 ws
+given_back core hs ws closed device known n s fault at =
     let w = known n s at in
     let history = closed.history in
-    let seat = seat_at history (owned_seats (h ∷ []) ws) (suc n) (owned_worker s) closed.one.owned (owned_at ws n s at) in
+    let seat = seat_at history (owned_seats hs ws) (length hs + n) (owned_worker s) closed.one.owned (worker_behind hs ws n s at) in
     let number : s.worker ≡ n = w.follows.worker in
     let own : steps_at n s.seat.seen ≡ s.seat.mine = subst (λ m. steps_at m s.seat.seen ≡ s.seat.mine) number w.ready.own in
-    let all = all_steps_seen core h ws closed (λ m x is. (known m x is).follows.worker) n s at own seat.seen in
+    let all = all_steps_seen core hs ws closed (λ m x is. (known m x is).follows.worker) n s at own seat.seen in
     let slots = s.device.slots in
     let same : worked_from n (new_device slots) history ≡ worked_from n (new_device slots) s.seat.seen = worked_same slots n s.seat.seen history seat.seen all in
     let k : 0 + n ≡ n = omega arith in
     ap (λ m. ends_of fault m history) k ∙ (sym (backs_are_ends fault n (new_device slots) history) ∙ (ap (backs fault) same ∙ ap (λ m. backs fault (worked_from m (new_device slots) s.seat.seen)) (sym number)))
 
-of_workers : (core : CoreState) (h : HandleState) (ws : List WorkerState) (closed : IsClosed core (h ∷ []) ws) → AreInOrder ws → AreOfWorkers closed.history (length ws)
-of_workers core h ws closed order i worker fault at =
-    let held = each_step_held core h ws closed order worker i (finish worker fault) at (finish_is_own worker fault) in
+pub of_workers : (core : CoreState) (hs : List HandleState) (ws : List WorkerState) (closed : IsClosed core hs ws) → AreInOrder ws → AreOfWorkers closed.history (length ws)
+of_workers core hs ws closed order i worker fault at =
+    let held = each_step_held core hs ws closed order worker i (finish worker fault) at (finish_is_own worker fault) in
     is_below ws worker held.seat held.there
 
 -- the flow's ends are among those of the one history
@@ -104,8 +99,8 @@ pub ran_beside : {E F End : Type 0} (runs faults : E → ℕ) (does : F → List
 ran_beside runs faults does flow flow' end device first h core ws es es' fresh flowed have closed =
     let known = first_worked runs faults device ws es es' have in
     let history = closed.history in
-    let all = of_workers core h ws closed (λ m x is. (known m x is).follows.worker) in
-    let given = given_back core h ws closed device known in
+    let all = of_workers core (h ∷ []) ws closed (λ m x is. (known m x is).follows.worker) in
+    let given = given_back core (h ∷ []) ws closed device known in
     let good = flow_ends does flow flow' end first h core ws flowed closed false in
     let good_shared = shares_are_enough false history ws all in
     let bad = flow_ends does flow flow' end first h core ws flowed closed true in
