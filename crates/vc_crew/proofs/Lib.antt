@@ -1,5 +1,6 @@
 pub mod Adding
 pub mod Alone
+pub mod Begun
 pub mod Ends
 pub mod Helped
 pub mod Owners

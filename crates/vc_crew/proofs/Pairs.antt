@@ -80,3 +80,6 @@ there_on R Q None None both q step = tt
 there_on R Q (Some x) (Some y) both q step = step x y both q
 there_on R Q None (Some y) both q step = absurd both
 there_on R Q (Some x) None both q step = absurd both
+
+pub all_same : {A : Type 0} (P : A → Type 0) (xs xs' : List A) → All P xs → xs' ≡ xs → All P xs'
+all_same P xs xs' all e = subst (λ l. All P l) (sym e) all

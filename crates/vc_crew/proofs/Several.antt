@@ -27,7 +27,7 @@ use Rattle.vc_crew.proofs.Alone.{first_worked, given_back, of_workers}
 slot_ends : {F End : Type 0} (does : F → List SoloEvent → List SoloEvent → End → F → Type 0) (flow flow' : F) (end : End) (device : DeviceId) (number : ℕ) (h : HandleState) (history : List DeviceEvent) (fault : Bool) (flowed : HasFlowed does flow flow' end (new_handle device number) h) → IsPrefix h.seat.seen history → finishes_by_fault fault (told_at (slot_events flowed.left)) ≤ finishes_by_fault fault (entries_of number (device_run the_coder (new_device device.slots) history))
 slot_ends does flow flow' end device number h history fault flowed seen =
     let left = flowed.left in
-    let same : finishes_by_fault fault (told_at (slot_events left)) ≡ finishes_by_fault fault (entries_of left.slot (device_run the_coder (new_device left.device.slots) left.seat.seen)) = ap (finishes_by_fault fault) (isolated the_coder left.device.slots left.slot left.seat.seen).told in
+    let same : finishes_by_fault fault (told_at (slot_events left)) ≡ finishes_by_fault fault (entries_of left.slot (device_run the_coder (new_device left.device.slots) left.seat.seen)) = sym (ap (finishes_by_fault fault) (isolated the_coder left.device.slots left.slot left.seat.seen).told) in
     let slot : finishes_by_fault fault (entries_of left.slot (device_run the_coder (new_device left.device.slots) left.seat.seen)) ≡ finishes_by_fault fault (entries_of number (device_run the_coder (new_device left.device.slots) left.seat.seen)) = ap (λ k. finishes_by_fault fault (entries_of k (device_run the_coder (new_device left.device.slots) left.seat.seen))) flowed.follows.slot in
     let there : finishes_by_fault fault (entries_of number (device_run the_coder (new_device left.device.slots) left.seat.seen)) ≡ finishes_by_fault fault (entries_of number (device_run the_coder (new_device device.slots) left.seat.seen)) = ap (λ (d : DeviceId). finishes_by_fault fault (entries_of number (device_run the_coder (new_device d.slots) left.seat.seen))) flowed.follows.device in
     let later = finishes_grow fault number (new_device device.slots) left.seat.seen h.seat.seen flowed.later.knows.seen in

@@ -10,7 +10,7 @@ use Rattle.vc_model.specs.Devices.{DeviceState, DeviceReply, Told, NoJob, Empty,
 use Rattle.vc_crew.proofs.Ends.{is_end, ends, of_slot, finishes-append}
 
 -- on the slots from a number on, as many as the list has entries
-pub on_slots : {A : Type 0} → Bool → DeviceState → List DeviceEvent → ℕ → List A → ℕ
+unfoldable pub on_slots : {A : Type 0} → Bool → DeviceState → List DeviceEvent → ℕ → List A → ℕ
 on_slots fault d es number [] = 0
 on_slots fault d es number (x ∷ xs) =
     finishes_by_fault fault (entries_of number (device_run the_coder d es)) + on_slots fault d es (number + 1) xs

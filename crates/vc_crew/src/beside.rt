@@ -1,6 +1,6 @@
 //! One caller beside workers.
 
-ghost use Rattle.std.specs.Prelude.{◌≡◌, ◌≤◌, ◌∷◌, [], ℕ, IfOk, IfErr, map, take, drop, vec_len, vec_capacity};
+ghost use Rattle.std.specs.Prelude.{◌≡◌, ◌≤◌, ◌∷◌, [], ℕ, All, IfOk, IfErr, map, take, drop, vec_len, vec_capacity};
 ghost use Rattle.vc_shared.specs.Making.{AreNewWorkers};
 ghost use Rattle.vc_crew.specs.Workers.{HaveWorked};
 ghost use Rattle.vc_crew.specs.Flowing.{ArePaired, MayFlow, HasFlowed};
@@ -52,7 +52,7 @@ fn run_scope<R: Threads + Wait + Sync, E: Engine + Send, F: Flow>(
         rt,
         move |scope| -> Run<E, F>
             requires { AreNewWorkers (device_of site.now) (vec_len crew.jobs) crew.jobs.items × (vec_len crew.jobs ≤ vec_len crew.engines) × (vec_len crew.jobs ≤ vec_len site.now.refused_workers) × All (λ c. MayFlow F.may (device_of site.now) c.handle c.flow) caller.contexts.items × (caller.done.items ≡ []) × (vec_len caller.contexts ≤ vec_capacity caller.done) × (caller.help ≡ None) }
-            ensures worked { HaveWorked E.run_count E.fault_count (device_of site.now) 0 result.crew.jobs.items crew.engines.items result.crew.engines.items }
+            ensures worked { HaveWorked E.run_count E.fault_count (device_of site.entry.now) 0 result.crew.jobs.items crew.engines.items result.crew.engines.items }
             ensures jobs { vec_len result.crew.jobs ≡ vec_len crew.jobs }
             ensures engines { vec_len result.crew.engines ≡ vec_len crew.engines }
             ensures flowed { ArePaired (λ c d. HasFlowed F.does c.flow d.flow d.end c.handle d.handle) caller.contexts.items result.called.done.items }
@@ -82,7 +82,11 @@ pub fn run_beside<R: Threads + Wait + Sync, E: Engine + Send, F: Flow>(
     ensures crew { vec_len engines.new ≡ vec_len engines.old }
     ensures others { drop workers engines.new.items ≡ drop workers engines.old.items }
 {
-    let (Ok(opened), Ok(caller)) = (open_site(alloc, 1, workers), Caller::make(alloc, 1)) else {
+    let Ok(opened) = open_site(alloc, 1, workers) else {
+        let end = Err(NoMemory);
+        return Ended { end, flow };
+    };
+    let Ok(caller) = Caller::make(alloc, 1) else {
         let end = Err(NoMemory);
         return Ended { end, flow };
     };

@@ -125,6 +125,7 @@ impl<E: Engine, F: Flow> Ran<E, F> {
         ensures ends { result.team.ends.items ≡ self.team.ends.items ++ done.end ∷ [] }
         ensures rooms { (vec_capacity result.team.handles ≡ vec_capacity self.team.handles) × (vec_capacity result.team.flows ≡ vec_capacity self.team.flows) × (vec_capacity result.team.ends ≡ vec_capacity self.team.ends) }
         ensures run { result.run ≡ self.run }
+        ensures own { result.run.called.done.items ≡ self.run.called.done.items }
     {
         let Ran { team, run } = self;
         let Team {
@@ -152,6 +153,9 @@ impl<E: Engine, F: Flow> Ran<E, F> {
         ensures own { self.run.called.done.items ≡ result.0.run.called.done.items ++ result.1 ∷ [] }
         ensures fewer { vec_len self.run.called.done ≡ vec_len result.0.run.called.done + 1 }
         ensures team { result.0.team ≡ self.team }
+        ensures handles { result.0.team.handles.items ≡ self.team.handles.items }
+        ensures flows { result.0.team.flows.items ≡ self.team.flows.items }
+        ensures ends { result.0.team.ends.items ≡ self.team.ends.items }
         ensures crew { result.0.run.crew ≡ self.run.crew }
     {
         let Ran { team, run } = self;

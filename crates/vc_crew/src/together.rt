@@ -28,17 +28,7 @@ fn run_scope<R: Threads + Wait + Sync, E: Engine + Send, F: Flow + Send>(
     crew: Crew<E>,
     caller: Caller<E, F>,
 ) -> Ran<E, F>
-    requires handles { AreNewHandles (device_of site.now) (vec_len team.handles) team.handles.items }
-    requires flows { vec_len team.handles ≡ vec_len team.flows }
-    requires may { All (λ f. F.may f) team.flows.items }
-    requires ends { (team.ends.items ≡ []) × (vec_len team.flows ≤ vec_capacity team.ends) }
-    requires refused { vec_len team.flows ≤ vec_len site.now.refused_flows }
-    requires jobs { AreNewWorkers (device_of site.now) (vec_len crew.jobs) crew.jobs.items }
-    requires engines { vec_len crew.jobs ≤ vec_len crew.engines }
-    requires refused_jobs { vec_len crew.jobs ≤ vec_len site.now.refused_workers }
-    requires own { (caller.contexts.items ≡ []) × (vec_len team.flows ≤ vec_capacity caller.contexts) }
-    requires done { (caller.done.items ≡ []) × (vec_len team.flows ≤ vec_capacity caller.done) }
-    requires help { caller.help ≡ None }
+    requires ready { AreNewHandles (device_of site.now) (vec_len team.handles) team.handles.items × (vec_len team.handles ≡ vec_len team.flows) × All (λ f. F.may f) team.flows.items × (team.ends.items ≡ []) × (vec_len team.flows ≤ vec_capacity team.ends) × (vec_len team.flows ≤ vec_len site.now.refused_flows) × AreNewWorkers (device_of site.now) (vec_len crew.jobs) crew.jobs.items × (vec_len crew.jobs ≤ vec_len crew.engines) × (vec_len crew.jobs ≤ vec_len site.now.refused_workers) × (caller.contexts.items ≡ []) × (vec_len team.flows ≤ vec_capacity caller.contexts) × (caller.done.items ≡ []) × (vec_len team.flows ≤ vec_capacity caller.done) × (caller.help ≡ None) }
     ensures flowed { HaveFlowed F.does (device_of site.now) 0 team.flows.items result.team.flows.items result.team.ends.items result.team.handles.items }
     ensures flows { vec_len result.team.flows ≡ vec_len team.flows }
     ensures handles { vec_len result.team.handles ≡ vec_len team.handles }
@@ -51,10 +41,10 @@ fn run_scope<R: Threads + Wait + Sync, E: Engine + Send, F: Flow + Send>(
         rt,
         move |scope| -> Ran<E, F>
             requires { AreNewHandles (device_of site.now) (vec_len team.handles) team.handles.items × (vec_len team.handles ≡ vec_len team.flows) × All (λ f. F.may f) team.flows.items × (team.ends.items ≡ []) × (vec_len team.flows ≤ vec_capacity team.ends) × (vec_len team.flows ≤ vec_len site.now.refused_flows) × AreNewWorkers (device_of site.now) (vec_len crew.jobs) crew.jobs.items × (vec_len crew.jobs ≤ vec_len crew.engines) × (vec_len crew.jobs ≤ vec_len site.now.refused_workers) × (caller.contexts.items ≡ []) × (vec_len team.flows ≤ vec_capacity caller.contexts) × (caller.done.items ≡ []) × (vec_len team.flows ≤ vec_capacity caller.done) × (caller.help ≡ None) }
-            ensures flowed { HaveFlowed F.does (device_of site.now) 0 team.flows.items result.team.flows.items result.team.ends.items result.team.handles.items }
+            ensures flowed { HaveFlowed F.does (device_of site.entry.now) 0 team.flows.items result.team.flows.items result.team.ends.items result.team.handles.items }
             ensures flows { vec_len result.team.flows ≡ vec_len team.flows }
             ensures handles { vec_len result.team.handles ≡ vec_len team.handles }
-            ensures worked { HaveWorked E.run_count E.fault_count (device_of site.now) 0 result.run.crew.jobs.items crew.engines.items result.run.crew.engines.items }
+            ensures worked { HaveWorked E.run_count E.fault_count (device_of site.entry.now) 0 result.run.crew.jobs.items crew.engines.items result.run.crew.engines.items }
             ensures jobs { vec_len result.run.crew.jobs ≡ vec_len crew.jobs }
             ensures engines { vec_len result.run.crew.engines ≡ vec_len crew.engines }
         { run_team(scope, rt, alloc, site, team, crew, caller) },

@@ -1,8 +1,14 @@
-use Rattle.std.proofs.Common.{◌≡◌, ◌+◌, ℕ, length, vec_len, sym, ap, ◌∙◌, arith}
+use Rattle.std.proofs.Common.{rules, ◌≡◌, ◌+◌, ℕ, length, vec_len, vec_items, sym, ap, ◌∙◌, arith}
 use Rattle.vc_shared.specs.Handles.{DeviceId}
 use Rattle.vc_shared.specs.Workers.{WorkerState, new_worker}
+use Rattle.vc_crew.specs.declared.calling.Context.{Context}
+use Rattle.vc_crew.specs.declared.worker.Worker.{Worker}
+use Rattle.vc_crew.specs.Workers.{HasWorked}
+use Rattle.vc_crew.specs.Flowing.{MayFlow}
 use Rattle.vc_crew.specs.Sites.{device_of}
 use Rattle.vc_crew.proofs.Adding.{spare_back, worker_back, worked_on, idle_seat, moved}
+use Rattle.vc_crew.proofs.Begun.{neither}
+use Rattle.vc_crew.proofs.Pairs.{all_same}
 use Rattle.vc_crew.proofs.Helped.{is_there, if_some, came_back}
 use Rattle.vc_crew.proofs.crew.+run_crew.Goals as goal
 
@@ -81,3 +87,12 @@ returns-in-Err-2-clause-engines g t c =
     let back = came_back _ _ _ c.in-Err.idle run.ensures.helped c.with_help-caller.ensures.help in
     let more = if_some _ _ back.now back.is c.with_help.ensures.one_more in
     omega (arith, more.1, run.ensures.engines, c.in-Some.ensures.len)
+
+pub run_crew-run-requires-in-Err-2-clause-may : goal.run_crew-run-requires-in-Err-2-clause-may
+run_crew-run-requires-in-Err-2-clause-may g t c κs within =
+    all_same (λ (x : Context g.row.F.Denot g.row.F-End.Denot). MayFlow g.F.Flow.may (device_of c.args.site.now) x.handle x.flow) c.args.caller.contexts.items c.with_help-caller.result.contexts.items c.requires.may (ap vec_items c.with_help-caller.ensures.contexts)
+
+pub returns-in-Err-2-clause-helped : goal.returns-in-Err-2-clause-helped
+returns-in-Err-2-clause-helped g t c =
+    let R : Worker g.row.E.Denot → Worker g.row.E.Denot → Type 0 = λ x y. HasWorked x.seat y.seat (g.E.Engine.run_count x.engine) (g.E.Engine.run_count y.engine) (g.E.Engine.fault_count x.engine) (g.E.Engine.fault_count y.engine) in
+    neither R c.args.caller.help c.with_help.result.called.help (search rules) (search rules)
