@@ -1,11 +1,11 @@
 -- One more worker, and one more engine.
 use Rattle.std.proofs.Common.{ℕ, zero, suc, ◌≡◌, ◌+◌, Option, Some, None, List, [], ◌∷◌, ◌++◌, length, get_or, length-append, refl, sym, ap, ◌∙◌, subst, arith}
 use Rattle.std.specs.Prelude.{replicate, slice_get}
-use Rattle.vc_shared.specs.Handles.{DeviceId, HandleState, device_at, new_handle}
-use Rattle.vc_shared.specs.Making.{AreNewHandles, AreNewWorkers}
+use Rattle.vc_shared.specs.Handles.{DeviceId, HandleState, new_handle}
+use Rattle.vc_shared.specs.Making.{AreNewHandles}
 use Rattle.vc_shared.specs.Closing.{AreHandlesOf}
 use Rattle.vc_shared.specs.Workers.{WorkerState, new_worker, job_had}
-use Rattle.vc_shared.specs.Following.{WorkerFollows, worker_follows_on}
+use Rattle.vc_shared.specs.Following.{worker_follows_on}
 use Rattle.vc_shared.specs.AsStation.{job_with, station_job, worked}
 use Rattle.vc_worker.specs.Gains.{gained_on}
 use Rattle.vc_crew.specs.Workers.{HasWorked, HaveWorked}
@@ -75,10 +75,6 @@ moved a b s r q r' f h f' w x y z =
 pub at_device : {E : Type 0} (runs faults : E → ℕ) (device other : DeviceId) (ws : List WorkerState) (es es' : List E) → HaveWorked runs faults device 0 ws es es' → device ≡ other → HaveWorked runs faults other 0 ws es es'
 at_device runs faults device other ws es es' have e = subst (λ d. HaveWorked runs faults d 0 ws es es') e have
 
-pub new_workers : (device other : DeviceId) (count number : ℕ) (ws : List WorkerState) → AreNewWorkers device count ws → device ≡ other → count ≡ number → AreNewWorkers other number ws
-new_workers device other count number ws new d n =
-    subst (λ x. AreNewWorkers x number ws) d (subst (λ k. AreNewWorkers device k ws) n new)
-
 pub only_handle : (device : DeviceId) (old new : List HandleState) (h : HandleState) → AreNewHandles device 1 old → old ≡ new ++ h ∷ [] → (h ≡ new_handle device 0) × (new ≡ [])
 only_handle device old [] h handles e =
     let first : slice_get old 0 ≡ Some (new_handle device 0) = handles.each 0 (omega arith) in
@@ -94,6 +90,3 @@ handles_of device h l e d s n = subst (AreHandlesOf device) (sym e) (record { al
     one : (k : ℕ) (x : HandleState) → slice_get (h ∷ []) k ≡ Some x → (x.device ≡ device) × (x.slot ≡ k)
     one zero x at = let same : h ≡ x = cc in (subst (λ (y : HandleState). y.device ≡ device) same d, subst (λ (y : HandleState). y.slot ≡ 0) same s)
     one (suc k) x at = absurd (cc)
-
-pub same_device : (device : DeviceId) (slots workers : ℕ) → device.slots ≡ slots → device.workers ≡ workers → device ≡ device_at device.lock slots workers
-same_device device slots workers a b = λ i. device_at device.lock (a i) (b i)

@@ -1,9 +1,7 @@
 -- What a flow beside workers did, from what is known when all have ended.
-use Rattle.std.proofs.Common.{ℕ, zero, suc, ◌≡◌, ◌+◌, ◌<◌, ◌≤◌, Bool, true, false, Some, None, List, [], ◌∷◌, ◌++◌, length, refl, sym, ap, ◌∙◌, subst, arith}
+use Rattle.std.proofs.Common.{ℕ, zero, suc, ◌≡◌, ◌+◌, ◌<◌, ◌≤◌, Bool, true, false, Some, List, [], ◌∷◌, length, sym, ap, ◌∙◌, subst, arith}
 use Rattle.std.specs.Prelude.{slice_get, map, take, drop}
-use mathlib.Core.List.{IsPrefix}
-use Rattle.vc_base.specs.Device.{DeviceEvent, finish}
-use Rattle.vc_model.specs.Coder.{the_coder}
+use Rattle.vc_base.specs.Device.{finish}
 use Rattle.vc_model.specs.Solo.{SoloEvent}
 use Rattle.vc_model.specs.Handed.{finishes_by_fault}
 use Rattle.vc_model.specs.Devices.{new_device}
@@ -13,10 +11,10 @@ use Rattle.vc_port.specs.Payloads.{told_at}
 use Rattle.vc_shared.specs.Handles.{DeviceId, HandleState, new_handle, slot_events}
 use Rattle.vc_shared.specs.Workers.{WorkerState, new_worker, IsWorker}
 use Rattle.vc_shared.specs.Following.{WorkerFollows}
-use Rattle.vc_shared.specs.AsStation.{worked, worked_from}
+use Rattle.vc_shared.specs.AsStation.{worked_from}
 use Rattle.vc_shared.specs.Closing.{owned_worker, owned_seats, IsClosed, AreWorkersOf}
 use Rattle.vc_shared.proofs.Remembering.{worked_same, finish_is_own}
-use Rattle.vc_crew.specs.Workers.{HasWorked, HaveWorked}
+use Rattle.vc_crew.specs.Workers.{HaveWorked}
 use Rattle.vc_crew.specs.Flowing.{HasFlowed}
 use Rattle.vc_crew.specs.Beside.{RanBeside}
 use Rattle.vc_crew.proofs.Ends.{ends, ends_of, backs, backs_are_ends, ends_on_slot, ends_grow}
@@ -122,7 +120,3 @@ all_ran runs faults does flow flow' end device first h handles core ws es es' ol
 pub others_kept : {E : Type 0} (runs faults : E → ℕ) (device : DeviceId) (ws : List WorkerState) (es es' old : List E) (count : ℕ) → es ≡ old → length ws ≡ count → HaveWorked runs faults device 0 ws es es' → drop count es' ≡ drop count old
 others_kept runs faults device ws es es' old count same number have =
     subst (λ n. drop n es' ≡ drop n old) number (others_stay runs faults device 0 ws es es' have ∙ ap (λ l. drop (length ws) l) same)
-
-pub closed_workers : {E : Type 0} (runs faults : E → ℕ) (device other : DeviceId) (ws : List WorkerState) (es es' : List E) → HaveWorked runs faults device 0 ws es es' → device ≡ other → length ws ≡ other.workers → AreWorkersOf other ws
-closed_workers runs faults device other ws es es' have same all =
-    are_workers runs faults other ws es es' (subst (λ d. HaveWorked runs faults d 0 ws es es') same have) all

@@ -1,7 +1,6 @@
 -- Flows whose threads were started, or not.
-use Rattle.std.proofs.Common.{ℕ, ◌≡◌, ◌∙◌, Option, Some, None, Result, Ok, Err, List, sym, ap, subst}
+use Rattle.std.proofs.Common.{ℕ, ◌≡◌, ◌∙◌, Option, None, Result, Ok, Err, List, sym, ap, subst}
 use Rattle.std.specs.Prelude.{MatchResult, IfErr}
-
 use Rattle.vc_model.specs.Solo.{SoloEvent}
 use Rattle.vc_port.specs.Payloads.{slot_after}
 use Rattle.vc_shared.specs.Handles.{DeviceId, HandleState, new_handle, slot_events}

@@ -3,9 +3,9 @@ use Rattle.std.proofs.Common.{ℕ, ◌≡◌, ◌+◌, ◌≤◌, ◌==◌, ◌&
 use Rattle.std.proofs.lemmas.List.Sums.{sum_by-cons}
 use mathlib.Core.List.{IsPrefix}
 use Rattle.vc_base.specs.Device.{DeviceEvent, call, claim, finish, shut}
-use Rattle.vc_model.specs.Coder.{Coder, the_coder}
-use Rattle.vc_model.specs.Solo.{Called, Claims, Finishes, SoloReply, Answered, Claimed, Finished, Nothing, SoloEntry}
-use Rattle.vc_model.specs.Handed.{same_bool, is_finish_by, finishes_by_fault}
+use Rattle.vc_model.specs.Coder.{the_coder}
+use Rattle.vc_model.specs.Solo.{SoloReply, Answered, Claimed, Finished, Nothing, SoloEntry}
+use Rattle.vc_model.specs.Handed.{same_bool, finishes_by_fault}
 use Rattle.vc_model.specs.Devices.{DeviceState, DeviceReply, Told, NoJob, Empty, new_device, device_step, device_run, with_told, solo_events_of, entry_for, entries_of, projection}
 use Rattle.vc_model.proofs.Isolating.{isolated}
 use Rattle.vc_port.specs.Payloads.{told_at}

@@ -1,15 +1,13 @@
 -- Whose each entry of the one history is.
-use Rattle.std.proofs.Common.{ℕ, zero, suc, ◌≡◌, ◌+◌, ◌<◌, ◌≤◌, ◌==◌, ◌||◌, Bool, true, false, cond, Option, Some, None, List, [], ◌∷◌, ◌++◌, length, refl, sym, ap, ◌∙◌, subst, arith, eqb, length-append}
-use Rattle.std.specs.Prelude.{slice_get, map, nat_lt}
+use Rattle.std.proofs.Common.{ℕ, zero, suc, ◌≡◌, ◌+◌, ◌<◌, ◌==◌, ◌||◌, Bool, true, false, cond, Some, List, [], ◌∷◌, ◌++◌, length, refl, sym, ap, ◌∙◌, subst, arith, eqb}
+use Rattle.std.specs.Prelude.{slice_get, map}
 use Rattle.std.specs.List.{list_any}
 use Rattle.std.proofs.lemmas.List.{append-nil}
 use Rattle.std.proofs.lemmas.Bool.{eqb-true, lt-ltb, false≢true}
 use mathlib.Core.List.{IsPrefix}
 use Rattle.vc_base.specs.Device.{DeviceEvent, call, claim, finish, shut}
-use Rattle.vc_model.specs.Coder.{the_coder}
-use Rattle.vc_model.specs.Devices.{new_device}
 use Rattle.vc_model.specs.Standing.{CoreState}
-use Rattle.vc_model.specs.Seats.{positions_from, steps_at, is_call_of, is_step_of, is_shut_event, may_add, adds_at, handle_of, worker_of, OwnedSeat, IsSeatOf, AreSeatsOf, all_mine, count_position, IsOneHistory}
+use Rattle.vc_model.specs.Seats.{positions_from, steps_at, is_call_of, is_step_of, is_shut_event, may_add, adds_at, OwnedSeat, IsSeatOf, AreSeatsOf, all_mine, count_position}
 use Rattle.vc_shared.specs.Handles.{HandleState}
 use Rattle.vc_shared.specs.Workers.{WorkerState}
 use Rattle.vc_shared.specs.Closing.{owned_handle, owned_worker, owned_seats, IsClosed}

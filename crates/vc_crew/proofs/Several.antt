@@ -1,5 +1,5 @@
 -- What several flows did on the slots of a device whose seats all came back.
-use Rattle.std.proofs.Common.{ℕ, zero, suc, ◌≡◌, ◌+◌, ◌<◌, ◌≤◌, Bool, true, false, Some, List, [], ◌∷◌, ◌++◌, length, refl, sym, ap, ◌∙◌, subst, arith}
+use Rattle.std.proofs.Common.{ℕ, zero, suc, ◌≡◌, ◌+◌, ◌≤◌, Bool, true, false, Some, List, [], ◌∷◌, ◌++◌, length, refl, sym, ap, ◌∙◌, subst, arith}
 use Rattle.std.specs.Prelude.{slice_get, map, take, sum_by}
 use Rattle.std.proofs.lemmas.List.Sums.{sum_by-cons}
 use mathlib.Core.List.{IsPrefix}
@@ -18,7 +18,6 @@ use Rattle.vc_shared.specs.Closing.{owned_handle, owned_worker, IsClosed, AreHan
 use Rattle.vc_crew.specs.Workers.{HaveWorked}
 use Rattle.vc_crew.specs.Flowing.{HasFlowed, HaveFlowed}
 use Rattle.vc_crew.specs.Together.{EachRan, RanTogether, bad_finishes}
-use Rattle.vc_crew.proofs.Ends.{ends}
 use Rattle.vc_crew.proofs.Slots.{on_slots, ends_on_slots, finishes_grow}
 use Rattle.vc_crew.proofs.Shares.{shares_of, shares_are_enough, runs_rose, faults_rose}
 use Rattle.vc_crew.proofs.Alone.{first_worked, given_back, of_workers}

@@ -1,16 +1,16 @@
 -- The ends of a history are shared out among the workers.
-use Rattle.std.proofs.Common.{ℕ, zero, suc, ◌≡◌, ◌+◌, ◌<◌, ◌≤◌, ◌==◌, ◌&&◌, Bool, true, false, cond, Some, List, [], ◌∷◌, length, refl, sym, ap, ◌∙◌, subst, inl, inr, arith, eqb}
+use Rattle.std.proofs.Common.{ℕ, suc, ◌≡◌, ◌+◌, ◌<◌, ◌≤◌, ◌==◌, ◌&&◌, Bool, true, false, cond, Some, List, [], ◌∷◌, length, refl, sym, ap, ◌∙◌, subst, arith, eqb}
 use Rattle.std.specs.Prelude.{slice_get, map, take, sum}
 use Rattle.std.proofs.lemmas.Bool.{eqb-false}
 use Rattle.std.proofs.lemmas.List.Sums.{sum_by-cons}
 use Rattle.vc_base.specs.Device.{DeviceEvent, call, claim, finish, shut}
 use Rattle.vc_model.specs.Handed.{same_bool}
 use Rattle.vc_shared.specs.Handles.{DeviceId}
-use Rattle.vc_shared.specs.Workers.{WorkerState, new_worker}
+use Rattle.vc_shared.specs.Workers.{WorkerState}
 use Rattle.vc_shared.specs.AsStation.{worked}
-use Rattle.vc_worker.specs.Turns.{RoseBy, good_runs, failed_runs, worked_of}
+use Rattle.vc_worker.specs.Turns.{RoseBy, good_runs, failed_runs}
 use Rattle.vc_crew.specs.Rising.{AreShared}
-use Rattle.vc_crew.specs.Workers.{HasWorked, HaveWorked}
+use Rattle.vc_crew.specs.Workers.{HaveWorked}
 use Rattle.vc_crew.proofs.Ends.{is_end, ends, is_end_of, ends_of, backs, good_backs, failed_backs}
 
 -- the share of each worker: what it ended

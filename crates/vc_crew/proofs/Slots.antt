@@ -1,8 +1,8 @@
 -- How many jobs ended on several slots together.
-use Rattle.std.proofs.Common.{ℕ, zero, suc, ◌≡◌, ◌+◌, ◌<◌, ◌≤◌, ◌==◌, Bool, true, false, cond, List, [], ◌∷◌, ◌++◌, refl, sym, ap, ◌∙◌, subst, arith, eqb}
+use Rattle.std.proofs.Common.{ℕ, ◌≡◌, ◌+◌, ◌<◌, ◌≤◌, ◌==◌, Bool, true, false, cond, List, [], ◌∷◌, ◌++◌, refl, subst, arith, eqb}
 use Rattle.std.proofs.lemmas.Bool.{eqb-true}
 use mathlib.Core.List.{IsPrefix}
-use Rattle.vc_base.specs.Device.{DeviceEvent, call, claim, finish, shut}
+use Rattle.vc_base.specs.Device.{DeviceEvent}
 use Rattle.vc_model.specs.Coder.{the_coder}
 use Rattle.vc_model.specs.Solo.{SoloReply}
 use Rattle.vc_model.specs.Handed.{finishes_by_fault}

@@ -184,13 +184,7 @@ fn last_handle(handles: &mut Vec<HandleSeat>) -> Option<HandleSeat>
 
 /// Starts the flows, the last one first, lets the crew and the caller do their part, and joins all. A flow whose thread
 /// can't be started is run by the caller, behind the flows that it has already.
-pub(crate) fn run_team<
-    's,
-    C,
-    R: Threads + Wait + Sync,
-    E: Engine + Send + 's,
-    F: Flow + Send + 's,
->(
+pub(crate) fn run_team<'s, C, R: Threads + Wait + Sync, E: Engine + Send + 's, F: Flow + Send + 's>(
     scope: &Scope<'s, C>,
     rt: &'s R,
     alloc: Global,

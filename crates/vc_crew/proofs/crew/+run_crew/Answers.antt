@@ -1,4 +1,4 @@
-use Rattle.std.proofs.Common.{rules, ◌≡◌, ◌+◌, ℕ, length, vec_len, vec_items, sym, ap, ◌∙◌, arith}
+use Rattle.std.proofs.Common.{rules, ◌≡◌, ℕ, length, vec_len, vec_items, ap, ◌∙◌, arith}
 use Rattle.vc_shared.specs.Handles.{DeviceId}
 use Rattle.vc_shared.specs.Workers.{WorkerState, new_worker}
 use Rattle.vc_crew.specs.declared.calling.Context.{Context}

@@ -1,4 +1,4 @@
-use Rattle.std.proofs.Common.{ℕ, ◌≡◌, ◌+◌, ◌++◌, ◌∷◌, [], List, length, vec_len, sym, ap, ◌∙◌, subst, arith}
+use Rattle.std.proofs.Common.{ℕ, ◌≡◌, ◌++◌, ◌∷◌, [], List, length, vec_len, sym, ap, ◌∙◌, subst, arith}
 use Rattle.vc_shared.specs.Handles.{HandleState, new_handle}
 use Rattle.vc_crew.specs.declared.calling.Context.{Context}
 use Rattle.vc_crew.specs.declared.calling.Done.{Done}

@@ -5,8 +5,8 @@ use Rattle.vc_crew.proofs.Pairs.{all_same}
 use Rattle.vc_crew.proofs.Several.{flowed_handles, all_together}
 use Rattle.vc_crew.proofs.together.run_together.Goals as goal
 
-pub run_scope-ran-requires-after_bounds : goal.run_scope-ran-requires-after_bounds
-run_scope-ran-requires-after_bounds g c κs within = (
+pub run_scope-ran-requires-clause-ready : goal.run_scope-ran-requires-clause-ready
+run_scope-ran-requires-clause-ready g c κs within = (
   search rules,
   search rules,
   all_same (λ (f : g.row.F.Denot). g.F.Flow.may f) c.args.flows.now.items c.replace.result.items c.requires.may (ap vec_items c.replace.ensures.value),
