@@ -74,7 +74,7 @@ fn give<P: PayloadPort, K: Sink>(port: &mut P, sink: &mut K, taken: Taken) -> Re
     if round.last {
         return Ok(round);
     }
-    let _is_long_enough = queue_capture(port, taken.index)?;
+    queue_capture(port, taken.index)?;
     Ok(round)
 }
 
