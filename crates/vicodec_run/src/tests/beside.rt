@@ -1,6 +1,6 @@
 //! Jobs run beside the caller.
 
-ghost use Rattle.std.specs.Prelude.{◌≡◌, ◌<◌, vec_len, IfOk};
+ghost use Rattle.std.specs.Prelude.{◌≡◌, ◌<◌, vec_len};
 
 use crate::tests::decode::{KEY, NEXT, stream};
 use crate::tests::{Failing, run, words};
@@ -10,7 +10,6 @@ use std::sync::{Arc, Wait};
 use std::test::Fail;
 use std::thread;
 use std::thread::Threads;
-use vc_base::NoMemory;
 use vc_core::Engine;
 use vc_engine::PlainEngine;
 use vc_fault::{Gate, GatedEngine};
@@ -88,28 +87,6 @@ fn shut_door() -> Door {
     }
 }
 
-/// Plain engines, of which the first has the gate.
-fn gated_engines(alloc: Global, watch: Watch) -> Result<Vec<Box<dyn Engine + Send>>, NoMemory>
-    ensures { IfOk result (λ engines. vec_len engines ≡ 16) }
-{
-    let mut engines: Vec<Box<dyn Engine + Send>> = Vec::new(alloc);
-    let Ok(gated) = Box::new(alloc, GatedEngine::make(watch, PlainEngine::new())) else {
-        return Err(NoMemory);
-    };
-    let Ok(()) = engines.push(gated) else {
-        return Err(NoMemory);
-    };
-    for _engine in 1..16u32 {
-        let Ok(plain) = Box::new(alloc, PlainEngine::new()) else {
-            return Err(NoMemory);
-        };
-        let Ok(()) = engines.push(plain) else {
-            return Err(NoMemory);
-        };
-    }
-    Ok(engines)
-}
-
 /// How a command ended whose first engine has the gate, and what it wrote. Each read of its input gives so many bytes at
 /// most, and the read with the number waits until a run has begun.
 fn run_watched<R: Threads + Wait + Sync>(
@@ -120,7 +97,7 @@ fn run_watched<R: Threads + Wait + Sync>(
     input: Vec<u8>,
     step: usize,
     waits_at: u64,
-) -> Result<(Status, Vec<u8>), NoMemory>
+) -> Result<(Status, Vec<u8>), Fail>
     requires { 0 < step }
 {
     let words = words(alloc, line)?;
@@ -134,7 +111,11 @@ fn run_watched<R: Threads + Wait + Sync>(
     let watch = Watch {
         door: Arc::try_clone(door)?,
     };
-    let mut engines = gated_engines(alloc, watch)?;
+    let mut engines: Vec<Box<dyn Engine + Send>> = Vec::new(alloc);
+    engines.push(Box::new(alloc, GatedEngine::make(watch, PlainEngine::new()))?)?;
+    for _engine in 1..16u32 {
+        engines.push(Box::new(alloc, PlainEngine::new())?)?;
+    }
     let status = top(rt, alloc, &words, &mut source, &mut sink, &mut engines);
     Ok((status, sink.into_bytes()))
 }

@@ -1,7 +1,5 @@
 //! What a command is given that may fail.
 
-ghost use Rattle.std.specs.Prelude.{◌<◌};
-
 use crate::tests::run_between;
 use std::alloc::Global;
 use std::sync::Wait;
@@ -10,8 +8,8 @@ use vc_base::NoMemory;
 use vc_io::{MemSink, MemSource};
 use vc_top::Status;
 
-/// What is handed in to a command: how many bytes a read gives and a write takes at most, and the number of the read, of
-/// the write or of the run that fails.
+/// What is handed in to a command: how many bytes a read gives and a write takes at most, where 0 counts as 1, and the
+/// number of the read, of the write or of the run that fails.
 #[derive(Clone, Copy)]
 pub(crate) struct Outside {
     pub(crate) read_step: usize,
@@ -49,18 +47,16 @@ pub(crate) fn run_with<R: Threads + Wait + Sync>(
     line: &[&str],
     input: Vec<u8>,
     outside: &Outside,
-) -> Result<(Status, Vec<u8>), NoMemory>
-    requires { (0 < outside.now.read_step) × (0 < outside.now.write_step) }
-{
+) -> Result<(Status, Vec<u8>), NoMemory> {
     let mut source = MemSource::make(
         input,
-        outside.read_step,
+        outside.read_step.max(1),
         listed(alloc, outside.failing_read)?,
     );
     let mut sink = MemSink::make(
         alloc,
         4096,
-        outside.write_step,
+        outside.write_step.max(1),
         listed(alloc, outside.failing_write)?,
     )?;
     let failing_run = outside.failing_run;
