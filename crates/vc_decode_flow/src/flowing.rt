@@ -190,7 +190,8 @@ fn end_of(ended: Result<bool, Stop>) -> FlowEnd
 ///
 /// Two OUTPUT and four CAPTURE buffers are used. OUTPUT streams before the first byte is read. A piece of the input, of at
 /// most 65,536 bytes, is queued before the next one is read, and no reply is waited for before both OUTPUT buffers are
-/// queued or the input has ended. At each change of geometry CAPTURE is restarted once, and at the end the slot is drained.
+/// queued or the input has ended. At each change of geometry CAPTURE is restarted once, with four buffers of the new length:
+/// one that becomes too short before stays unused until then. At the end the slot is drained.
 pub fn decode_on<R: Wait, P: PayloadPort, S: Source, K: Sink>(
     rt: &R,
     alloc: Global,

@@ -52,7 +52,8 @@ fn write_picture<P: PayloadPort, K: Sink>(port: &P, sink: &mut K, taken: Taken) 
     }
 }
 
-/// Writes the picture that was taken, and queues its buffer again unless it is the last one before a stop.
+/// Writes the picture that was taken, and queues its buffer again unless it is the last one before a stop. A buffer that has
+/// become too short is left: longer pictures begin, and CAPTURE is restarted for them.
 fn give<P: PayloadPort, K: Sink>(port: &mut P, sink: &mut K, taken: Taken) -> Result<Round, Stop>
     requires ready { P.ready port.old }
     requires there { IsThere (held_payload (P.hold port.old) Cap taken.index) taken.used }

@@ -8,7 +8,7 @@ ghost use Rattle.vc_decode_flow.specs.Steps.{with_captures, without_captures, re
 
 use crate::ends::Stop;
 use std::sync::Wait;
-use vc_base::{Call, Reply, Side, Stamp};
+use vc_base::{Call, Errno, Reply, Side, Stamp};
 use vc_port::PayloadPort;
 use vc_wait::{call_on, wait_on};
 
@@ -33,8 +33,8 @@ fn request_captures<P: PayloadPort>(port: &mut P) -> Result<(), Stop>
     }
 }
 
-/// Queues a CAPTURE buffer.
-pub(crate) fn queue_capture<P: PayloadPort>(port: &mut P, index: u32) -> Result<(), Stop>
+/// Queues a CAPTURE buffer, and tells whether it was long enough. It stays with the user where it is too short.
+pub(crate) fn queue_capture<P: PayloadPort>(port: &mut P, index: u32) -> Result<bool, Stop>
     requires ready { P.ready port.old }
     ensures ready { P.ready port.new }
     ensures follows { P.follows port.old port.new }
@@ -49,7 +49,10 @@ pub(crate) fn queue_capture<P: PayloadPort>(port: &mut P, index: u32) -> Result<
         stamp: Stamp(0),
     };
     match call_on(port, &call) {
-        Reply::Done => Ok(()),
+        Reply::Done => Ok(true),
+        Reply::Refused {
+            errno: Errno::Inval,
+        } => Ok(false),
         _ => Err(Stop::NoMemory),
     }
 }
@@ -64,7 +67,9 @@ fn queue_captures<P: PayloadPort>(port: &mut P) -> Result<(), Stop>
     ensures memory { IfErr result (λ stop. stop ≡ Stop.NoMemory) }
 {
     for index in 0..CAP_BUFFERS {
-        queue_capture(port, index)?;
+        if !queue_capture(port, index)? {
+            return Err(Stop::NoMemory);
+        }
     }
     Ok(())
 }

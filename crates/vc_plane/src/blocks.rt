@@ -1,14 +1,15 @@
 //! A block as it is coded: the differences from what it is coded from, and back.
 
-ghost use Rattle.std.specs.Prelude.{◌≡◌, ◌≤◌, ◌<◌, ◌-ℤ◌, ◌+ℤ◌, ◌≤ℤ◌, ◌*ℤ◌, ◌^◌, ◌*◌, ℕ, pos, neg_ℤ, length, slice_index_or, replicate, not, true, false};
+ghost use Rattle.std.specs.Prelude.{◌≡◌, ◌≤◌, ◌<◌, ◌+◌, ◌-ℤ◌, ◌+ℤ◌, ◌≤ℤ◌, ◌*ℤ◌, ◌^◌, ◌*◌, ℕ, pos, neg_ℤ, length, slice_index_or, replicate, not, true, false};
 ghost use Rattle.std.specs.Int.{int_shr};
 ghost use Rattle.vc_defs.specs.Quantiser.{AllBetween, AreValues, dequantised, shift_at};
 ghost use Rattle.vc_defs.specs.Walsh.{transformed};
-ghost use Rattle.vc_defs.specs.Planes.{base_of, clamped, block_count};
+ghost use Rattle.vc_defs.specs.Planes.{base_of, clamped, block_count, block_of};
+ghost use Rattle.vc_block.specs.Places.{IsSpot};
 ghost use Rattle.vc_plane.specs.Samples.{samples_from, AreShown};
 
 use crate::Shape;
-use vc_block::{block_at, set_block_at};
+use vc_block::{Spot, copy_block, set_block, spot_of};
 use vc_fwht::Transform;
 use vc_quant::dequantise;
 
@@ -144,7 +145,8 @@ fn show_intra_blocks(y: &[i32; 64], shape: &Shape, reference: &mut [u8], from: u
 {
     let block = samples(y, &[0; 64], false);
     for number in from..to {
-        set_block_at(reference, shape.width, shape.height, number, &block);
+        let spot = spot_of(shape.width, shape.height, number);
+        set_block(reference, shape.width, shape.height, &spot, &block);
     }
 }
 
@@ -156,10 +158,12 @@ fn show_inter_blocks(y: &[i32; 64], shape: &Shape, reference: &mut [u8], from: u
     requires blocks { (from ≤ to) × (to ≤ block_count shape.now.width shape.now.height) }
     ensures { AreShown reference.old reference.new shape.now.width shape.now.height from to y.now true }
 {
+    let mut old = [0; 64];
     for number in from..to {
-        let old = block_at(reference, shape.width, shape.height, number);
+        let spot = spot_of(shape.width, shape.height, number);
+        copy_block(reference, shape.width, shape.height, &spot, &mut old);
         let block = samples(y, &old, true);
-        set_block_at(reference, shape.width, shape.height, number, &block);
+        set_block(reference, shape.width, shape.height, &spot, &block);
     }
 }
 
@@ -183,5 +187,49 @@ pub(crate) fn show_blocks<T: Transform>(
         show_intra_blocks(&restored(t, q, false), shape, reference, from, to);
     } else if !is_zero(q) {
         show_inter_blocks(&restored(t, q, true), shape, reference, from, to);
+    }
+}
+
+/// Shows a block of a plane that has this inverse transform, where it replaces the block `old` of the reference.
+fn show_samples(
+    y: &[i32; 64],
+    shape: &Shape,
+    inter: bool,
+    old: &[u8; 64],
+    reference: &mut [u8],
+    spot: &Spot,
+)
+    requires size { length reference.old ≡ shape.now.width * shape.now.height }
+    requires some { (0 < shape.now.width) × (0 < shape.now.height) }
+    requires range { AllBetween (neg_ℤ (pos 134217728)) (pos 134217728) y.now }
+    requires spot { IsSpot shape.now.width shape.now.height spot.now }
+    requires replaced { old.now ≡ block_of reference.old shape.now.width shape.now.height spot.now.number }
+    ensures { AreShown reference.old reference.new shape.now.width shape.now.height spot.now.number (spot.now.number + 1) y.now inter }
+{
+    let block = samples(y, old, inter);
+    set_block(reference, shape.width, shape.height, spot, &block);
+}
+
+/// Shows a block of a plane, where it replaces the block `old` of the reference.
+pub(crate) fn show_block<T: Transform>(
+    t: &T,
+    q: &[i32; 64],
+    shape: &Shape,
+    inter: bool,
+    old: &[u8; 64],
+    reference: &mut [u8],
+    spot: &Spot,
+)
+    requires size { length reference.old ≡ shape.now.width * shape.now.height }
+    requires some { (0 < shape.now.width) × (0 < shape.now.height) }
+    requires values { AreValues q.now }
+    requires spot { IsSpot shape.now.width shape.now.height spot.now }
+    requires replaced { old.now ≡ block_of reference.old shape.now.width shape.now.height spot.now.number }
+    ensures { AreShown reference.old reference.new shape.now.width shape.now.height spot.now.number (spot.now.number + 1) (transformed (dequantised q.now (not inter))) inter }
+{
+    if !inter {
+        show_samples(&restored(t, q, false), shape, false, old, reference, spot);
+    } else if !is_zero(q) {
+        show_samples(&restored(t, q, true), shape, true, old, reference, spot);
     }
 }

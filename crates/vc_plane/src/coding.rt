@@ -2,13 +2,14 @@
 
 ghost use Rattle.std.specs.Prelude.{◌≡◌, ◌≤◌, ◌<◌, ◌*◌, ◌-ℤ◌, ◌≤ℤ◌, pos, neg_ℤ, length, slice_index};
 ghost use Rattle.vc_defs.specs.Quantiser.{AllBetween, AreValues};
-ghost use Rattle.vc_defs.specs.Planes.{base_of, block_count, block_of, coded_as, coded_block, differences};
+ghost use Rattle.vc_defs.specs.Planes.{base_of, block_of, coded_as, coded_block, differences};
+ghost use Rattle.vc_block.specs.Places.{IsSpot};
 ghost use Rattle.vc_plane.specs.Entries.{block_with};
 
 use crate::Shape;
 use crate::blocks::base;
 use crate::choosing::is_inter_block;
-use vc_block::block_at;
+use vc_block::{Spot, copy_block};
 use vc_fwht::Transform;
 use vc_quant::quantise;
 
@@ -53,26 +54,30 @@ fn values_of<T: Transform>(
     )
 }
 
-/// Codes a block of a plane: gives whether it is a P block, and its values in `q`.
+/// Codes a block of a plane: gives whether it is a P block, its values in `q`, and in `old` the block of the reference that
+/// it replaces.
 pub(crate) fn code_block<T: Transform>(
     t: &T,
     plane: &[u8],
     reference: &[u8],
     shape: &Shape,
-    number: usize,
+    spot: &Spot,
+    old: &mut [u8; 64],
     q: &mut [i32; 64],
 ) -> bool
     requires plane { length plane.now ≡ shape.now.width * shape.now.height }
     requires reference { length reference.now ≡ shape.now.width * shape.now.height }
     requires some { (0 < shape.now.width) × (0 < shape.now.height) }
     requires qp { (1 ≤ shape.now.qp) × (shape.now.qp ≤ 31) }
-    requires number { number < block_count shape.now.width shape.now.height }
-    ensures coded { block_with result q.new ≡ coded_block shape.now.inter shape.now.qp (block_of plane.now shape.now.width shape.now.height number) (block_of reference.now shape.now.width shape.now.height number) }
+    requires spot { IsSpot shape.now.width shape.now.height spot.now }
+    ensures coded { block_with result q.new ≡ coded_block shape.now.inter shape.now.qp (block_of plane.now shape.now.width shape.now.height spot.now.number) (block_of reference.now shape.now.width shape.now.height spot.now.number) }
     ensures range { AreValues q.new }
+    ensures replaced { old.new ≡ block_of reference.now shape.now.width shape.now.height spot.now.number }
 {
-    let block = block_at(plane, shape.width, shape.height, number);
-    let old = block_at(reference, shape.width, shape.height, number);
-    let inter = is_inter_block(shape.inter, &block, &old);
-    *q = values_of(t, &block, &old, inter, shape.qp);
+    let mut block = [0; 64];
+    copy_block(plane, shape.width, shape.height, spot, &mut block);
+    copy_block(reference, shape.width, shape.height, spot, old);
+    let inter = is_inter_block(shape.inter, &block, old);
+    *q = values_of(t, &block, old, inter, shape.qp);
     inter
 }

@@ -8,13 +8,14 @@ ghost use Rattle.vc_defs.specs.Planes.{Block, padded, same_block, canon_entry, e
 ghost use Rattle.vc_plane.specs.Entries.{block_with};
 ghost use Rattle.vc_plane.specs.Writing.{IsBlockAdded, IsPlaneWritten, pending_bytes};
 
-use crate::blocks::show_blocks;
+use crate::blocks::show_block;
 use crate::coding::code_block;
 use crate::entries::head;
 use crate::raw::{cap_samples, put_plane};
 use crate::reading::block_count;
 use crate::{Shape, Written};
 use byteorder::{BigEndian, ByteOrder};
+use vc_block::spot_of;
 use vc_defs::Full;
 use vc_fwht::Transform;
 use vc_rlc::write_block;
@@ -106,8 +107,10 @@ fn write_coded<T: Transform>(
     ensures samples { OnOk result (reference.new ≡ decoded_plane (coded_blocks shape.now.inter shape.now.qp plane.now reference.old shape.now.width shape.now.height) reference.old shape.now.width shape.now.height) }
 {
     let mut q = [0; 64];
-    let inter = code_block(t, plane, reference, shape, 0, &mut q);
-    show_blocks(t, &q, shape, inter, reference, 0, 1);
+    let mut old = [0; 64];
+    let spot = spot_of(shape.width, shape.height, 0);
+    let inter = code_block(t, plane, reference, shape, &spot, &mut old, &mut q);
+    show_block(t, &q, shape, inter, &old, reference, &spot);
     let mut pending = Pending {
         inter,
         values: q,
@@ -115,12 +118,13 @@ fn write_coded<T: Transform>(
         end: 0,
     };
     for number in 1..block_count(shape) {
-        let inter = code_block(t, plane, reference, shape, number, &mut q);
+        let spot = spot_of(shape.width, shape.height, number);
+        let inter = code_block(t, plane, reference, shape, &spot, &mut old, &mut q);
         match add_block(out, &mut pending, inter, &q) {
             Ok(()) => {},
             Err(full) => return Err(full),
         }
-        show_blocks(t, &q, shape, inter, reference, number, number + 1);
+        show_block(t, &q, shape, inter, &old, reference, &spot);
     }
     put_entry(out, &pending)
 }

@@ -1,5 +1,5 @@
 -- How an encoding ends, from what its flow did and what the engines counted.
-use Rattle.std.proofs.Common.{◌≡◌, ℕ, ◌^◌, ◌≤◌, ◌<◌, ◌⊎◌, inl, inr, Bool, true, false, List, [], length, Option, Some, None, IfSome, refl, sym, ◌∙◌, subst, arith}
+use Rattle.std.proofs.Common.{◌≡◌, ℕ, ◌≤◌, ◌⊎◌, inl, inr, Bool, true, false, List, [], Option, Some, None, IfSome, refl, sym, ◌∙◌, subst, arith}
 use Rattle.std.proofs.KnownBytes.{Appends-nil}
 use Rattle.std.proofs.lemmas.Bool.{false≢true}
 use Rattle.std.specs.Io.KnownBytes.{Appends}
@@ -11,14 +11,14 @@ use Rattle.vc_port.specs.Payloads.{good_finishes}
 use Rattle.vc_encode_flow.specs.declared.ends.FlowEnd.{FlowEnd}
 use Rattle.vc_encode_flow.specs.declared.ends.FlowEnd.TheVariants.{Whole, Damaged, ShortRaw, ReadFault, WriteFault, EngineFault, TooLong, NoMemory}
 use Rattle.vc_encode_flow.specs.Flows.{fault_finishes}
-use Rattle.vc_encode_flow.specs.Endings.{IsWritten, IsFrontWritten, IsLong}
+use Rattle.vc_encode_flow.specs.Endings.{IsWritten, IsFrontWritten}
 use Rattle.vc_words.specs.declared.command.EncodeOptions.{EncodeOptions}
 use Rattle.vc_top.specs.declared.status.Status.{Status}
 use Rattle.vc_top.specs.declared.status.Status.TheVariants as statuses
 use Rattle.vc_top.specs.Encodes.{rates_in, frames_of, frame_count, AllEncoded, EncodeEnds, IsGoodRaw, EncodeCompletes}
 use Rattle.vc_top.specs.Engines.{OneRose}
 use Rattle.vc_top.specs.Flows.{HasEncoded, status_of_flow}
-use Rattle.vc_top.proofs.FlowEnds.{front_of, one_rose, end_whole, end_read, end_write, end_engine, AreCauses}
+use Rattle.vc_top.proofs.FlowEnds.{front_of, one_rose, end_whole, end_read, end_write, end_engine, AreCauses, long_is_long}
 
 -- What was written
 
@@ -79,10 +79,6 @@ encode_causes options end had left old new r r' s s' events faults faults' h ros
     }
 
 -- Completeness
-
-long_is_long : (input : List ℕ) (left : Option (List ℕ)) → IsLong (Some input) left → length input < 2 ^ 40 → ⊥
-long_is_long input None long short = long
-long_is_long input (Some rest) long short = omega (arith, long, short)
 
 complete_at : (options : EncodeOptions) (input : List ℕ) (left old new : Option (List ℕ)) (status : Status) (r r' s s' : ℕ) (faults faults' : List ℕ) → EncodeEnds options input left old new status → AreCauses status r r' s s' faults faults' → IsGoodRaw options input → (Rose r r' → ⊥) → (Rose s s' → ⊥) → (OneRose faults faults' → ⊥) → (status ≡ statuses.Fine) ⊎ (status ≡ statuses.NoMemory)
 complete_at options input left old new statuses.Fine r r' s s' faults faults' e c good x y z = inl refl

@@ -1,5 +1,5 @@
 -- How the flow of a command ends: what it wrote of its output, what the engines counted, and the status.
-use Rattle.std.proofs.Common.{◌≡◌, ℕ, zero, suc, ◌<◌, inl, inr, List, [], ◌∷◌, ◌++◌, length, take, Option, refl, sym, ◌∙◌, ap, subst, arith, length-append}
+use Rattle.std.proofs.Common.{◌≡◌, ℕ, zero, suc, ◌<◌, ◌^◌, inl, inr, List, [], ◌∷◌, ◌++◌, length, take, Option, Some, None, refl, sym, ◌∙◌, ap, subst, arith, length-append}
 use Rattle.std.specs.Io.KnownBytes.{Appends}
 use Rattle.std.specs.Prelude.{sum}
 use Rattle.vc_base.specs.Counts.{Rose}
@@ -7,6 +7,7 @@ use Rattle.vc_crew.specs.Rising.{AreShared, RoseTogether}
 use Rattle.vc_worker.specs.Turns.{RoseBy}
 use Rattle.vc_io.specs.Written.{AppendsFront}
 use Rattle.vc_encode_flow.specs.declared.ends.FlowEnd.{FlowEnd}
+use Rattle.vc_encode_flow.specs.Endings.{IsLong}
 use Rattle.vc_encode_flow.specs.declared.ends.FlowEnd.TheVariants.{Whole, Damaged, ShortRaw, ReadFault, WriteFault, EngineFault, TooLong, NoMemory}
 use Rattle.vc_top.specs.declared.status.Status.{Status}
 use Rattle.vc_top.specs.declared.status.Status.TheVariants as statuses
@@ -55,6 +56,16 @@ end_whole EngineFault e = absurd (cc)
 end_whole TooLong e = absurd (cc)
 end_whole NoMemory e = absurd (cc)
 
+pub end_damaged : (end : FlowEnd) → status_of_flow end ≡ statuses.Damaged → end ≡ Damaged
+end_damaged Damaged e = refl
+end_damaged Whole e = absurd (cc)
+end_damaged ShortRaw e = absurd (cc)
+end_damaged ReadFault e = absurd (cc)
+end_damaged WriteFault e = absurd (cc)
+end_damaged EngineFault e = absurd (cc)
+end_damaged TooLong e = absurd (cc)
+end_damaged NoMemory e = absurd (cc)
+
 pub end_read : (end : FlowEnd) → status_of_flow end ≡ statuses.ReadFault → end ≡ ReadFault
 end_read ReadFault e = refl
 end_read Whole e = absurd (cc)
@@ -94,6 +105,11 @@ no_flow_is_usage WriteFault e = cc
 no_flow_is_usage EngineFault e = cc
 no_flow_is_usage TooLong e = cc
 no_flow_is_usage NoMemory e = cc
+
+-- more was not read than the input has
+pub long_is_long : (input : List ℕ) (left : Option (List ℕ)) → IsLong (Some input) left → length input < 2 ^ 40 → ⊥
+long_is_long input None long short = long
+long_is_long input (Some rest) long short = omega (arith, long, short)
 
 -- why a flow ended so, told by the status
 pub record AreCauses (status : Status) (r r' s s' : ℕ) (faults faults' : List ℕ) : Type 0 where

@@ -14,5 +14,6 @@ mod Whole
 mod OwnLines
 mod Reading
 mod Encoding
+mod Decoding
 mod FlowEnds
 mod Kept

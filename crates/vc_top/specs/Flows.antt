@@ -8,6 +8,7 @@ use Rattle.vc_encode_flow.specs.declared.ends.FlowEnd.{FlowEnd}
 use Rattle.vc_encode_flow.specs.declared.ends.FlowEnd.TheVariants.{Whole, Damaged, ShortRaw, ReadFault, WriteFault, EngineFault, TooLong, NoMemory}
 use Rattle.vc_encode_flow.specs.Flows.{fault_finishes}
 use Rattle.vc_encode_flow.specs.Endings.{IsWritten, IsFrontWritten, IsLong}
+use Rattle.vc_decode_flow.specs.Endings as decoding
 use Rattle.vc_top.specs.declared.status.Status.{Status}
 use Rattle.vc_top.specs.declared.status.Status.TheVariants as statuses
 
@@ -31,6 +32,17 @@ pub record HasEncoded (format : Format) (rates : RunRates) (end : FlowEnd) (sour
   pub engine : end ≡ EngineFault → fault_finishes before < fault_finishes after
   pub long : end ≡ TooLong → IsLong source.left source'.left
   pub undamaged : end ≢ Damaged
+
+-- How a coded stream went through a decoder: what was read, written and handed out, and why the flow ended so.
+pub record HasDecoded (end : FlowEnd) (source source' : SourceTells) (sink sink' : SinkTells) (before after : List SoloEvent) : Type 0 where
+  pub whole : end ≡ Whole → decoding.IsWritten false source.left source'.left sink.written sink'.written before after
+  pub damaged : end ≡ Damaged → decoding.IsWritten true source.left source'.left sink.written sink'.written before after
+  pub front : decoding.IsFrontWritten source.left sink.written sink'.written before after
+  pub read : end ≡ ReadFault → Rose source.faults source'.faults
+  pub write : end ≡ WriteFault → Rose sink.faults sink'.faults
+  pub engine : end ≡ EngineFault → fault_finishes before < fault_finishes after
+  pub long : end ≡ TooLong → IsLong source.left source'.left
+  pub no_raw : end ≢ ShortRaw
 
 -- the status of a command whose flow ended so
 abbrev pub status_of_flow : FlowEnd → Status

@@ -1,5 +1,6 @@
 pub mod Asking
 pub mod Carries
+pub mod Decodes
 pub mod Desks
 pub mod Does
 pub mod Encodes

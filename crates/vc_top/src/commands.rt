@@ -3,13 +3,16 @@
 ghost use Rattle.std.specs.Prelude.{◌≡◌, ◌≢◌, ◌<◌, ◌≤◌, ◌↔◌, ◌⊎◌, None, IfSome, map, string_bytes, vec_len, slice_get, take, drop};
 ghost use Rattle.vc_base.specs.Counts.{Rose};
 ghost use Rattle.vc_crew.specs.Rising.{RoseTogether};
+ghost use Rattle.vc_defs.specs.Outputs.{result_count};
+ghost use Rattle.vc_top.specs.Decodes.{DecodeEnds, DecodeCompletes};
 ghost use Rattle.vc_top.specs.Encodes.{EncodeEnds, EncodeCompletes, frame_count};
 ghost use Rattle.vc_top.specs.Ends.{ScriptEnds, Completes};
 ghost use Rattle.vc_top.specs.Engines.{OneRose, engines_used};
 ghost use Rattle.vc_top.specs.Makes.{MakeEnds};
-ghost use Rattle.vc_top.specs.Words.{asked_command, OnScript, OnMake, OnEncode};
+ghost use Rattle.vc_top.specs.Words.{asked_command, OnScript, OnMake, OnEncode, OnDecode};
 ghost use Rattle.vc_words.specs.Ranges.{IsMake};
 
+use crate::decode::decode_run;
 use crate::encode::encode_run;
 use crate::input::{ReadStop, read_script};
 use crate::script::run_lines;
@@ -110,6 +113,10 @@ pub fn top<R: Threads + Wait + Sync, S: Source, K: Sink>(
     ensures encode_runs { OnEncode (asked_command (map (λ w. string_bytes w) words.now)) (λ options. result ≡ Status.Fine → IfSome (S.left source.old) (λ input. RoseTogether (frame_count options input) (map (λ e. ⟦<Box<dyn Engine + Send> as Engine>⟧.run_count e) (take options.workers engines.old.items)) (map (λ e. ⟦<Box<dyn Engine + Send> as Engine>⟧.run_count e) (take options.workers engines.new.items)))) }
     ensures encode_engine { OnEncode (asked_command (map (λ w. string_bytes w) words.now)) (λ options. result ≡ Status.EngineFault → OneRose (map (λ e. ⟦<Box<dyn Engine + Send> as Engine>⟧.fault_count e) (take options.workers engines.old.items)) (map (λ e. ⟦<Box<dyn Engine + Send> as Engine>⟧.fault_count e) (take options.workers engines.new.items))) }
     ensures encode_completes { OnEncode (asked_command (map (λ w. string_bytes w) words.now)) (λ options. IfSome (S.left source.old) (λ input. EncodeCompletes options input (S.faults source.old) (S.faults source.new) (K.faults sink.old) (K.faults sink.new) (map (λ e. ⟦<Box<dyn Engine + Send> as Engine>⟧.fault_count e) (take options.workers engines.old.items)) (map (λ e. ⟦<Box<dyn Engine + Send> as Engine>⟧.fault_count e) (take options.workers engines.new.items)) result)) }
+    ensures decode { OnDecode (asked_command (map (λ w. string_bytes w) words.now)) (λ options. IfSome (S.left source.old) (λ input. DecodeEnds input (S.left source.new) (K.written sink.old) (K.written sink.new) result)) }
+    ensures decode_runs { OnDecode (asked_command (map (λ w. string_bytes w) words.now)) (λ options. (result ≡ Status.Fine) ⊎ (result ≡ Status.Damaged) → IfSome (S.left source.old) (λ input. RoseTogether (result_count input) (map (λ e. ⟦<Box<dyn Engine + Send> as Engine>⟧.run_count e) (take options.workers engines.old.items)) (map (λ e. ⟦<Box<dyn Engine + Send> as Engine>⟧.run_count e) (take options.workers engines.new.items)))) }
+    ensures decode_engine { OnDecode (asked_command (map (λ w. string_bytes w) words.now)) (λ options. result ≡ Status.EngineFault → OneRose (map (λ e. ⟦<Box<dyn Engine + Send> as Engine>⟧.fault_count e) (take options.workers engines.old.items)) (map (λ e. ⟦<Box<dyn Engine + Send> as Engine>⟧.fault_count e) (take options.workers engines.new.items))) }
+    ensures decode_completes { OnDecode (asked_command (map (λ w. string_bytes w) words.now)) (λ options. IfSome (S.left source.old) (λ input. DecodeCompletes input (S.faults source.old) (S.faults source.new) (K.faults sink.old) (K.faults sink.new) (map (λ e. ⟦<Box<dyn Engine + Send> as Engine>⟧.fault_count e) (take options.workers engines.old.items)) (map (λ e. ⟦<Box<dyn Engine + Send> as Engine>⟧.fault_count e) (take options.workers engines.new.items)) result)) }
     ensures crew { vec_len engines.new ≡ 16 }
     ensures others { drop (engines_used (asked_command (map (λ w. string_bytes w) words.now))) engines.new.items ≡ drop (engines_used (asked_command (map (λ w. string_bytes w) words.now))) engines.old.items }
 {
@@ -118,6 +125,7 @@ pub fn top<R: Threads + Wait + Sync, S: Source, K: Sink>(
             script_run(alloc, options.slots, source, sink, &mut engines[0])
         }
         Some(Command::Encode(options)) => encode_run(rt, alloc, &options, source, sink, engines),
+        Some(Command::Decode(options)) => decode_run(rt, alloc, &options, source, sink, engines),
         Some(Command::Make(options)) => make_run(alloc, &options, sink),
         _ => Status::Usage,
     }

@@ -1,9 +1,9 @@
 //! What the commands let run beside workers, and how it ends.
 
-ghost use Rattle.std.specs.Prelude.{◌≡◌};
+ghost use Rattle.std.specs.Prelude.{◌≡◌, ⊤};
 ghost use Rattle.vc_defs.specs.Laws.{AreRates};
 ghost use Rattle.vc_encode_flow.specs.Flows.{IsKept, rates_of};
-ghost use Rattle.vc_top.specs.Flows.{HasEncoded, status_of_flow};
+ghost use Rattle.vc_top.specs.Flows.{HasEncoded, HasDecoded, status_of_flow};
 
 use crate::status::Status;
 use std::alloc::Global;
@@ -11,6 +11,7 @@ use std::sync::Wait;
 use vc_base::Format;
 use vc_core::Rates;
 use vc_crew::Flow;
+use vc_decode_flow::decode_on;
 use vc_encode_flow::{FlowEnd, encode_on};
 use vc_io::{Sink, Source};
 use vc_port::PayloadPort;
@@ -41,6 +42,25 @@ impl<S: Source, K: Sink> Flow for EncodeFlow<'_, S, K> {
             &self.format,
             &self.rates,
         )
+    }
+}
+
+/// A coded stream of a source that becomes pictures in a sink.
+#[derive(Drop)]
+pub(crate) struct DecodeFlow<'a, S: Source, K: Sink> {
+    pub(crate) source: &'a mut S,
+    pub(crate) sink: &'a mut K,
+}
+
+impl<S: Source, K: Sink> Flow for DecodeFlow<'_, S, K> {
+    type End = FlowEnd;
+
+    ghost may = { λ f. ⊤ };
+
+    ghost does = { λ f before after end now. HasDecoded end (record { left = S.left f.source.now; faults = S.faults f.source.now }) (record { left = S.left now.source.now; faults = S.faults now.source.now }) (record { written = K.written f.sink.now; faults = K.faults f.sink.now }) (record { written = K.written now.sink.now; faults = K.faults now.sink.now }) before after × (now.source.ghost_name ≡ f.source.ghost_name) × (now.sink.ghost_name ≡ f.sink.ghost_name) };
+
+    fn run<R: Wait, P: PayloadPort>(&mut self, rt: &R, alloc: Global, port: &mut P) -> FlowEnd {
+        decode_on(rt, alloc, port, self.source, self.sink)
     }
 }
 

@@ -1,10 +1,11 @@
 //! The commands of the program: `script` reads a script whole, carries out its lines on a device, and prints
-//! what they answer; `encode` codes raw pictures by workers; `make` writes pictures of the generator. docs/FORMAT.md has
-//! the grammar and the texts.
+//! what they answer; `encode` codes raw pictures and `decode` decodes coded streams, both by workers; `make` writes
+//! pictures of the generator. docs/FORMAT.md has the grammar and the texts.
 #![tactic(auto)]
 
 mod carry;
 mod commands;
+mod decode;
 mod desk;
 mod encode;
 mod flows;

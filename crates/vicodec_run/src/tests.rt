@@ -2,11 +2,13 @@
 
 mod beside;
 mod copying;
+mod decode;
 mod decoders;
 mod encode;
 mod encoders;
 mod faults;
 mod make;
+mod outside;
 
 use std::alloc::Global;
 use std::sync::Wait;

@@ -1,7 +1,8 @@
 //! Jobs run beside the caller.
 
-ghost use Rattle.std.specs.Prelude.{◌≡◌};
+ghost use Rattle.std.specs.Prelude.{◌≡◌, ◌<◌, vec_len};
 
+use crate::tests::decode::{KEY, NEXT, stream};
 use crate::tests::{Failing, run, words};
 use std::alloc::Global;
 use std::sync::atomic::{AtomicBool, AtomicU64, Ordering};
@@ -9,7 +10,6 @@ use std::sync::{Arc, Wait};
 use std::test::Fail;
 use std::thread;
 use std::thread::Threads;
-use vc_base::NoMemory;
 use vc_core::Engine;
 use vc_engine::PlainEngine;
 use vc_fault::{Gate, GatedEngine};
@@ -19,8 +19,8 @@ use vc_top::{Status, top};
 /// How often each side looks for the other one at most.
 const MOST_LOOKS: u64 = 100_000_000;
 
-/// What the source and the gate share: whether the read behind two pictures has come, how often it looked for the gate,
-/// and how often the gate was looked at.
+/// What the source and the gate share: whether the read that waits has come, how often it looked for the gate, and how
+/// often the gate was looked at.
 #[derive(Drop)]
 struct Door {
     has_come: AtomicBool,
@@ -41,11 +41,12 @@ impl Gate for Watch {
     }
 }
 
-/// A source of pictures, one in each read. The third read waits until a run has begun.
+/// A source of which one read, counted from 0, waits until a run has begun.
 #[derive(Drop)]
 struct WatchedSource {
-    pictures: MemSource,
+    bytes: MemSource,
     reads: u64,
+    waits_at: u64,
     door: Arc<Door, Global>,
 }
 
@@ -64,31 +65,17 @@ impl WatchedSource {
 }
 
 impl Source for WatchedSource {
-    ghost left = { λ s. ⟦<MemSource as Source>⟧.left s.pictures };
+    ghost left = { λ s. ⟦<MemSource as Source>⟧.left s.bytes };
 
-    ghost faults = { λ s. ⟦<MemSource as Source>⟧.faults s.pictures };
+    ghost faults = { λ s. ⟦<MemSource as Source>⟧.faults s.bytes };
 
     fn read(&mut self, buf: &mut [u8]) -> Result<usize, ReadFailed> {
-        if self.reads == 2 {
+        if self.reads == self.waits_at {
             self.wait_for_run();
         }
         self.reads = self.reads.saturating_add(1);
-        self.pictures.read(buf)
+        self.bytes.read(buf)
     }
-}
-
-/// The frames of so many bytes 128 by plain engines.
-fn plainly<R: Threads + Wait + Sync>(
-    rt: &R,
-    alloc: Global,
-    line: &[&str],
-    bytes: usize,
-) -> Result<Vec<u8>, NoMemory> {
-    let Ok(input) = vec![in alloc; 128; bytes] else {
-        return Err(NoMemory);
-    };
-    let (_, written) = run(rt, alloc, line, input, Failing::Nothing)?;
-    Ok(written)
 }
 
 /// The door, before anybody looked.
@@ -100,9 +87,42 @@ fn shut_door() -> Door {
     }
 }
 
-/// The worker's run begins while the caller reads on: neither side could go on without the other.
+/// How a command ended whose first engine has the gate, and what it wrote. Each read of its input gives so many bytes at
+/// most, and the read with the number waits until a run has begun.
+fn run_watched<R: Threads + Wait + Sync>(
+    rt: &R,
+    alloc: Global,
+    door: &Arc<Door, Global>,
+    line: &[&str],
+    input: Vec<u8>,
+    step: usize,
+    waits_at: u64,
+) -> Result<(Status, Vec<u8>), Fail>
+    requires { 0 < step }
+{
+    let words = words(alloc, line)?;
+    let mut source = WatchedSource {
+        bytes: MemSource::make(input, step, Vec::new(alloc)),
+        reads: 0,
+        waits_at,
+        door: Arc::try_clone(door)?,
+    };
+    let mut sink = MemSink::make(alloc, 4096, 4096, Vec::new(alloc))?;
+    let watch = Watch {
+        door: Arc::try_clone(door)?,
+    };
+    let mut engines: Vec<Box<dyn Engine + Send>> = Vec::new(alloc);
+    engines.push(Box::new(alloc, GatedEngine::make(watch, PlainEngine::new()))?)?;
+    for _engine in 1..16u32 {
+        engines.push(Box::new(alloc, PlainEngine::new())?)?;
+    }
+    let status = top(rt, alloc, &words, &mut source, &mut sink, &mut engines);
+    Ok((status, sink.into_bytes()))
+}
+
+/// A worker's run begins while the caller reads on: neither side could go on without the other.
 #[test]
-fn jobs_run_beside_the_caller(rt: HostRuntime) -> Result<(), Fail> {
+fn pictures_are_encoded_beside_the_caller(rt: HostRuntime) -> Result<(), Fail> {
     let line: &[&str] = &[
         "encode",
         "--format",
@@ -114,29 +134,31 @@ fn jobs_run_beside_the_caller(rt: HostRuntime) -> Result<(), Fail> {
         "--workers",
         "1",
     ];
-    let words = words(rt.alloc(), line)?;
-    let door = Arc::new(rt.alloc(), shut_door())?;
-    let input = vec![in rt.alloc(); 128; 768]?;
-    let mut source = WatchedSource {
-        pictures: MemSource::make(input, 256, Vec::new(rt.alloc())),
-        reads: 0,
-        door: Arc::try_clone(&door)?,
-    };
-    let mut sink = MemSink::make(rt.alloc(), 4096, 4096, Vec::new(rt.alloc()))?;
-    let watch = Watch {
-        door: Arc::try_clone(&door)?,
-    };
-    let mut engines: Vec<Box<dyn Engine + Send>> = Vec::new(rt.alloc());
-    engines.push(Box::new(rt.alloc(), GatedEngine::make(watch, PlainEngine::new()))?)?;
-    for _engine in 1..16u32 {
-        engines.push(Box::new(rt.alloc(), PlainEngine::new())?)?;
-    }
     let alloc = rt.alloc();
-    let status = top(&rt, alloc, &words, &mut source, &mut sink, &mut engines);
+    let door = Arc::new(alloc, shut_door())?;
+    let input = vec![in alloc; 128; 768]?;
+    let (status, written) = run_watched(&rt, alloc, &door, line, input, 256, 2)?;
     assert_eq!(rt; status, Status::Fine);
     assert!(rt; door.gate_looks.load(Ordering::SeqCst) < MOST_LOOKS);
     assert!(rt; door.reader_looks.load(Ordering::SeqCst) < MOST_LOOKS);
-    let wanted = plainly(&rt, rt.alloc(), line, 768)?;
-    assert_eq!(rt; sink.into_bytes().as_slice(), wanted.as_slice());
+    let again = vec![in alloc; 128; 768]?;
+    let (_, wanted) = run(&rt, alloc, line, again, Failing::Nothing)?;
+    assert_eq!(rt; written.as_slice(), wanted.as_slice());
+    Ok(())
+}
+
+/// The same of a decoder: a run begins while the caller reads the second frame.
+#[test]
+fn streams_are_decoded_beside_the_caller(rt: HostRuntime) -> Result<(), Fail> {
+    let alloc = rt.alloc();
+    let door = Arc::new(alloc, shut_door())?;
+    let input = stream(alloc, &[(KEY, 48), (NEXT, 48)])?;
+    let line: &[&str] = &["decode", "--workers", "1"];
+    let (status, written) = run_watched(&rt, alloc, &door, line, input, 48, 1)?;
+    assert_eq!(rt; status, Status::Fine);
+    assert!(rt; door.gate_looks.load(Ordering::SeqCst) < MOST_LOOKS);
+    assert!(rt; door.reader_looks.load(Ordering::SeqCst) < MOST_LOOKS);
+    let pictures = vec![in alloc; 128; 512]?;
+    assert_eq!(rt; written.as_slice(), pictures.as_slice());
     Ok(())
 }

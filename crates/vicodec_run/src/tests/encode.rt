@@ -1,14 +1,8 @@
 //! Raw pictures through `encode`.
 
-ghost use Rattle.std.specs.Prelude.{◌<◌};
-
-use crate::tests::{Failing, run, run_between};
-use std::alloc::Global;
-use std::sync::Wait;
+use crate::tests::outside::{Outside, SOUND, run_with};
+use crate::tests::{Failing, run};
 use std::test::Fail;
-use std::thread::Threads;
-use vc_base::NoMemory;
-use vc_io::{MemSink, MemSource};
 use vc_top::Status;
 
 /// The frames of two pictures of 16 by 16 samples of 128: an I frame, and the P frame behind it.
@@ -46,26 +40,6 @@ fn pictures_are_encoded(rt: HostRuntime) -> Result<(), Fail> {
     }
     Ok(())
 }
-
-/// What is handed in to a command: how many bytes a read gives and a write takes at most, and the number of the read, of
-/// the write or of the run that fails.
-#[derive(Clone, Copy)]
-struct Outside {
-    read_step: usize,
-    failing_read: Option<u64>,
-    write_step: usize,
-    failing_write: Option<u64>,
-    failing_run: Option<u64>,
-}
-
-/// Nothing fails.
-const SOUND: Outside = Outside {
-    read_step: 4096,
-    failing_read: None,
-    write_step: 4096,
-    failing_write: None,
-    failing_run: None,
-};
 
 /// What fails, how the encoding of two pictures ends, and the least and the most bytes of their frames that were
 /// written.
@@ -110,25 +84,8 @@ const FAULTS: [(Outside, Status, usize, usize); 4] = [
     ),
 ];
 
-/// The list of the number, and an empty list where there is none.
-fn listed(alloc: Global, number: Option<u64>) -> Result<Vec<u64>, NoMemory> {
-    let mut numbers = Vec::new(alloc);
-    if let Some(number) = number {
-        let Ok(()) = numbers.push(number) else {
-            return Err(NoMemory);
-        };
-    }
-    Ok(numbers)
-}
-
-/// Encodes two pictures by one worker: how it ended, and what was written.
-fn encode_two<R: Threads + Wait + Sync>(
-    rt: &R,
-    alloc: Global,
-    outside: &Outside,
-) -> Result<(Status, Vec<u8>), NoMemory>
-    requires { (0 < outside.now.read_step) × (0 < outside.now.write_step) }
-{
+#[test]
+fn faults_end_an_encoding(rt: HostRuntime) -> Result<(), Fail> {
     let line: &[&str] = &[
         "encode",
         "--format",
@@ -140,29 +97,9 @@ fn encode_two<R: Threads + Wait + Sync>(
         "--workers",
         "1",
     ];
-    let Ok(input) = vec![in alloc; 128; 512] else {
-        return Err(NoMemory);
-    };
-    let mut source = MemSource::make(
-        input,
-        outside.read_step,
-        listed(alloc, outside.failing_read)?,
-    );
-    let mut sink = MemSink::make(
-        alloc,
-        4096,
-        outside.write_step,
-        listed(alloc, outside.failing_write)?,
-    )?;
-    let failing_run = outside.failing_run;
-    let status = run_between(rt, alloc, line, &mut source, &mut sink, failing_run)?;
-    Ok((status, sink.into_bytes()))
-}
-
-#[test]
-fn faults_end_an_encoding(rt: HostRuntime) -> Result<(), Fail> {
     for (outside, status, least, most) in FAULTS {
-        let (ended, written) = encode_two(&rt, rt.alloc(), &outside)?;
+        let input = vec![in rt.alloc(); 128; 512]?;
+        let (ended, written) = run_with(&rt, rt.alloc(), line, input, &outside)?;
         assert_eq!(rt; ended, status);
         assert!(rt; least <= written.len() && written.len() <= most);
         assert_eq!(rt; Some(written.as_slice()), FRAMES.get(..written.len()));

@@ -85,7 +85,7 @@ fn making_reads_nothing_and_may_fail(rt: HostRuntime) -> Result<(), Fail> {
             Status::Usage,
             0,
         ),
-        (&["decode"], Failing::Nothing, Status::Usage, 0),
+        (&["transcode"], Failing::Nothing, Status::Usage, 0),
     ];
     for (line, fails, status, length) in rows {
         let (ended, bytes) = run(&rt, rt.alloc(), line, Vec::new(rt.alloc()), fails)?;

@@ -1,6 +1,7 @@
 use Rattle.std.proofs.Common.{◌≡◌, ◌∙◌, subst, ℕ, arith, replicate}
 use Rattle.vc_defs.specs.Planes.{block_of}
 use Rattle.std.specs.Prelude.{false}
+use Rattle.vc_block.specs.Places.{IsBlockPlaced}
 use Rattle.vc_plane.specs.Samples.{AreShown}
 use Rattle.vc_plane.proofs.Shown.{intra_samples, none_shown, one_more_shown}
 use Rattle.vc_plane.proofs.blocks.show_intra_blocks.Goals as goal
@@ -10,10 +11,10 @@ loop-number-init c = record { size = c.requires.size; shown = none_shown c.args.
 
 pub loop-number-preserved : goal.loop-number-preserved
 loop-number-preserved c = record {
-  size = c.set_block_at.ensures.size;
-  shown = one_more_shown c.args.reference.now c.loop-number.reference c.set_block_at.new.plane c.args.shape.now.width c.args.shape.now.height c.args.from c.loop-number.number c.args.y.now false c.samples-block.result
+  size = c.set_block.ensures.size;
+  shown = one_more_shown c.args.reference.now c.loop-number.reference c.set_block.new.plane c.args.shape.now.width c.args.shape.now.height c.args.from c.loop-number.number c.args.y.now false c.samples-block.result
       c.requires.some.0 c.requires.some.1 (omega arith) (omega arith) c.loop-number.invariant.shown
-      (c.samples-block.ensures ∙ intra_samples c.args.y.now (replicate 64 0) (block_of c.loop-number.reference c.args.shape.now.width c.args.shape.now.height c.loop-number.number)) c.set_block_at.ensures;
+      (c.samples-block.ensures ∙ intra_samples c.args.y.now (replicate 64 0) (block_of c.loop-number.reference c.args.shape.now.width c.args.shape.now.height c.loop-number.number)) (subst (λ (n : ℕ). IsBlockPlaced c.loop-number.reference c.set_block.new.plane c.args.shape.now.width c.args.shape.now.height n c.samples-block.result) c.spot_of-spot.ensures.number c.set_block.ensures);
 }
 
 pub returns : goal.returns

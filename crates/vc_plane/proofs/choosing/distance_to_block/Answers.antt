@@ -1,16 +1,7 @@
-use Rattle.std.proofs.Common.{◌≡◌, ◌∙◌, sym, ap, ◌+◌, get_or, arith}
-use Rattle.std.specs.Prelude.{◌-ℤ◌, pos, sum_by, unsigned_abs}
-use Rattle.std.specs.List.{range_with_len}
-use Rattle.vc_plane.proofs.Sums.{one_more}
+use Rattle.std.proofs.Common.{◌∙◌, get_or}
+use Rattle.std.specs.Prelude.{◌-ℤ◌, pos, unsigned_abs}
+use Rattle.vc_plane.proofs.Sums.{same_sums}
 use Rattle.vc_plane.proofs.choosing.distance_to_block.Goals as goal
 
-pub loop-k-preserved : goal.loop-k-preserved
-loop-k-preserved c = record {
-  sum = ap (λ n. n + c.gap-sum.result) c.loop-k.invariant.sum ∙ ap (λ n. sum_by (λ k. unsigned_abs (pos (get_or c.args.block.now k 0) -ℤ pos (get_or c.args.other.now k 0))) (range_with_len 0 c.loop-k.k) + n) c.gap-sum.ensures.value ∙ sym (one_more (λ k. unsigned_abs (pos (get_or c.args.block.now k 0) -ℤ pos (get_or c.args.other.now k 0))) c.loop-k.k);
-  most = omega (arith, c.gap-sum.ensures.most, c.loop-k.invariant.most);
-}
-
 pub returns : goal.returns
-returns c =
-    let e : c.loop-k.k ≡ 64 = omega arith in
-    c.loop-k.invariant.sum ∙ ap (λ n. sum_by (λ k. unsigned_abs (pos (get_or c.args.block.now k 0) -ℤ pos (get_or c.args.other.now k 0))) (range_with_len 0 n)) e
+returns c = c.sum.ensures.value ∙ same_sums (λ k. get_or c.gaps.result k 0) (λ k. unsigned_abs (pos (get_or c.args.block.now k 0) -ℤ pos (get_or c.args.other.now k 0))) 64 c.gaps.ensures

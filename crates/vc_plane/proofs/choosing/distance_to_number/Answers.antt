@@ -1,16 +1,11 @@
-use Rattle.std.proofs.Common.{◌≡◌, ◌∙◌, sym, ap, ◌+◌, get_or, arith}
-use Rattle.std.specs.Prelude.{◌-ℤ◌, pos, sum_by, unsigned_abs}
-use Rattle.std.specs.List.{range_with_len}
-use Rattle.vc_plane.proofs.Sums.{one_more}
+use Rattle.std.proofs.Common.{◌∙◌, ap, get_or, replicate}
+use Rattle.std.specs.Prelude.{◌-ℤ◌, pos, unsigned_abs}
+use Rattle.std.proofs.lemmas.List.{get_or-replicate}
+use Rattle.vc_plane.proofs.Sums.{same_sums}
 use Rattle.vc_plane.proofs.choosing.distance_to_number.Goals as goal
-
-pub loop-k-preserved : goal.loop-k-preserved
-loop-k-preserved c = record {
-  sum = ap (λ n. n + c.gap-sum.result) c.loop-k.invariant.sum ∙ ap (λ n. sum_by (λ k. unsigned_abs (pos (get_or c.args.block.now k 0) -ℤ pos c.args.other)) (range_with_len 0 c.loop-k.k) + n) c.gap-sum.ensures.value ∙ sym (one_more (λ k. unsigned_abs (pos (get_or c.args.block.now k 0) -ℤ pos c.args.other)) c.loop-k.k);
-  most = omega (arith, c.gap-sum.ensures.most, c.loop-k.invariant.most);
-}
 
 pub returns : goal.returns
 returns c =
-    let e : c.loop-k.k ≡ 64 = omega arith in
-    c.loop-k.invariant.sum ∙ ap (λ n. sum_by (λ k. unsigned_abs (pos (get_or c.args.block.now k 0) -ℤ pos c.args.other)) (range_with_len 0 n)) e
+    c.distance_to_block.ensures
+    ∙ same_sums (λ k. unsigned_abs (pos (get_or c.args.block.now k 0) -ℤ pos (get_or (replicate 64 c.args.other) k 0))) (λ k. unsigned_abs (pos (get_or c.args.block.now k 0) -ℤ pos c.args.other)) 64
+    (λ k h. ap (λ n. unsigned_abs (pos (get_or c.args.block.now k 0) -ℤ pos n)) (get_or-replicate 64 k c.args.other 0 h))

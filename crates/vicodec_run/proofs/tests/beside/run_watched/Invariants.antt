@@ -1,5 +1,5 @@
 use Rattle.std.proofs.Common.{◌≡◌, vec_len}
-use Rattle.vicodec_run.proofs.tests.beside.jobs_run_beside_the_caller.Given as goal
+use Rattle.vicodec_run.proofs.tests.beside.run_watched.Given as goal
 
 abbrev pub invariant-loop-engine : goal.invariant-loop-engine
 invariant-loop-engine g l = vec_len l.engines ≡ l._engine

@@ -1,7 +1,7 @@
 use Rattle.std.proofs.Common.{◌≡◌, ◌∙◌, ap, ℕ, ◌*◌, ◌/◌, ◌%◌, List}
 use Rattle.vc_defs.specs.Planes.{blocks_across, block_of}
 use Rattle.vc_block.specs.Places.{block_from}
-use Rattle.vc_block.proofs.block_at.Goals as goal
+use Rattle.vc_block.proofs.copy_block.Goals as goal
 
 -- a block of a plane begins at its corner
 from_corner : (plane block : List ℕ) (width height number left top : ℕ) → left ≡ 8 * (number % blocks_across width) → top ≡ 8 * (number / blocks_across width) → block ≡ block_from plane width height left top → block ≡ block_of plane width height number
@@ -11,8 +11,8 @@ from_corner plane block width height number left top l t is =
 
 pub returns-then-top-height : goal.returns-then-top-height
 returns-then-top-height c =
-    from_corner c.args.plane.now c.inner_block.result c.args.width c.args.height c.args.number c.corner_of-left.result.left c.corner_of-left.result.top c.corner_of-left.ensures.left c.corner_of-left.ensures.top c.inner_block.ensures
+    from_corner c.args.plane.now c.copy_inner_block.new.block c.args.width c.args.height c.args.spot.now.number c.args.spot.now.left c.args.spot.now.top c.requires.spot.left c.requires.spot.top c.copy_inner_block.ensures
 
 pub returns-else-left-width : goal.returns-else-left-width
 returns-else-left-width c =
-    from_corner c.args.plane.now c.edge_block.result c.args.width c.args.height c.args.number c.corner_of-left.result.left c.corner_of-left.result.top c.corner_of-left.ensures.left c.corner_of-left.ensures.top c.edge_block.ensures
+    from_corner c.args.plane.now c.copy_edge_block.new.block c.args.width c.args.height c.args.spot.now.number c.args.spot.now.left c.args.spot.now.top c.requires.spot.left c.requires.spot.top c.copy_edge_block.ensures

@@ -1,6 +1,6 @@
 use Rattle.std.proofs.Common.{◌≡◌, ℕ, ◌<◌, ◌+◌, ◌*◌, ◌/◌, ◌%◌, length, get_or}
 use Rattle.vc_defs.specs.Planes.{padded_sample}
-use Rattle.vc_block.proofs.inner_block.Given as goal
+use Rattle.vc_block.proofs.copy_inner_block.Given as goal
 
 abbrev pub invariant-loop-row : goal.invariant-loop-row
 invariant-loop-row l = record {
