@@ -14,6 +14,7 @@ mod Whole
 mod OwnLines
 mod Reading
 mod Encoding
+mod Sharing
 mod Decoding
 mod FlowEnds
 mod Kept

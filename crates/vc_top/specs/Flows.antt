@@ -1,12 +1,16 @@
 -- What the flow of a command did, from the events of its slot before to those after.
-use Rattle.std.specs.Prelude.{ℕ, ◌≡◌, ◌≢◌, ◌<◌, true, false, List, Option}
+use Rattle.std.specs.Prelude.{ℕ, ◌≡◌, ◌≢◌, ◌⊎◌, ◌+◌, ◌≤◌, ◌<◌, true, false, length, List, Option, Result, IfOk, IfErr, OnOk, IsErrOf}
 use Rattle.vc_base.specs.declared.Format.{Format}
 use Rattle.vc_base.specs.Counts.{Rose}
 use Rattle.vc_defs.specs.Encoder.{RunRates}
+use Rattle.vc_defs.specs.Outputs.{fold_of}
 use Rattle.vc_model.specs.Solo.{SoloEvent}
+use Rattle.vc_port.specs.Payloads.{good_finishes}
 use Rattle.vc_encode_flow.specs.declared.ends.FlowEnd.{FlowEnd}
 use Rattle.vc_encode_flow.specs.declared.ends.FlowEnd.TheVariants.{Whole, Damaged, ShortRaw, ReadFault, WriteFault, EngineFault, TooLong, NoMemory}
+use Rattle.vc_encode_flow.specs.declared.tallying.Tally.{Tally}
 use Rattle.vc_encode_flow.specs.Flows.{fault_finishes}
+use Rattle.vc_encode_flow.specs.Shares.{generated_bytes}
 use Rattle.vc_encode_flow.specs.Endings.{IsWritten, IsFrontWritten, IsLong}
 use Rattle.vc_decode_flow.specs.Endings as decoding
 use Rattle.vc_top.specs.declared.status.Status.{Status}
@@ -43,6 +47,14 @@ pub record HasDecoded (end : FlowEnd) (source source' : SourceTells) (sink sink'
   pub engine : end ≡ EngineFault → fault_finishes before < fault_finishes after
   pub long : end ≡ TooLong → IsLong source.left source'.left
   pub no_raw : end ≢ ShortRaw
+
+-- How pictures of the generator for a number went through an encoder: the tally of their frames, or why there is none.
+pub record HasShared (format : Format) (pictures number : ℕ) (end : Result Tally FlowEnd) (before after : List SoloEvent) : Type 0 where
+  pub bytes : IfOk end (λ tally. tally.bytes ≡ length (generated_bytes format pictures number))
+  pub fold : IfOk end (λ tally. tally.fold ≡ fold_of (generated_bytes format pictures number))
+  pub finishes : OnOk end (good_finishes before + pictures ≤ good_finishes after)
+  pub engine : IsErrOf end EngineFault → fault_finishes before < fault_finishes after
+  pub refusals : IfErr end (λ stop. (stop ≡ EngineFault) ⊎ (stop ≡ NoMemory))
 
 -- the status of a command whose flow ended so
 abbrev pub status_of_flow : FlowEnd → Status

@@ -9,13 +9,15 @@ ghost use Rattle.vc_top.specs.Encodes.{EncodeEnds, EncodeCompletes, frame_count}
 ghost use Rattle.vc_top.specs.Ends.{ScriptEnds, Completes};
 ghost use Rattle.vc_top.specs.Engines.{OneRose, engines_used};
 ghost use Rattle.vc_top.specs.Makes.{MakeEnds};
-ghost use Rattle.vc_top.specs.Words.{asked_command, OnScript, OnMake, OnEncode, OnDecode};
+ghost use Rattle.vc_top.specs.Shares.{ShareEnds, ShareCompletes, share_count};
+ghost use Rattle.vc_top.specs.Words.{asked_command, OnScript, OnMake, OnEncode, OnDecode, OnShare};
 ghost use Rattle.vc_words.specs.Ranges.{IsMake};
 
 use crate::decode::decode_run;
 use crate::encode::encode_run;
 use crate::input::{ReadStop, read_script};
 use crate::script::run_lines;
+use crate::share::share_run;
 use crate::status::Status;
 use std::alloc::Global;
 use std::sync::Wait;
@@ -117,6 +119,11 @@ pub fn top<R: Threads + Wait + Sync, S: Source, K: Sink>(
     ensures decode_runs { OnDecode (asked_command (map (λ w. string_bytes w) words.now)) (λ options. (result ≡ Status.Fine) ⊎ (result ≡ Status.Damaged) → IfSome (S.left source.old) (λ input. RoseTogether (result_count input) (map (λ e. ⟦<Box<dyn Engine + Send> as Engine>⟧.run_count e) (take options.workers engines.old.items)) (map (λ e. ⟦<Box<dyn Engine + Send> as Engine>⟧.run_count e) (take options.workers engines.new.items)))) }
     ensures decode_engine { OnDecode (asked_command (map (λ w. string_bytes w) words.now)) (λ options. result ≡ Status.EngineFault → OneRose (map (λ e. ⟦<Box<dyn Engine + Send> as Engine>⟧.fault_count e) (take options.workers engines.old.items)) (map (λ e. ⟦<Box<dyn Engine + Send> as Engine>⟧.fault_count e) (take options.workers engines.new.items))) }
     ensures decode_completes { OnDecode (asked_command (map (λ w. string_bytes w) words.now)) (λ options. IfSome (S.left source.old) (λ input. DecodeCompletes input (S.faults source.old) (S.faults source.new) (K.faults sink.old) (K.faults sink.new) (map (λ e. ⟦<Box<dyn Engine + Send> as Engine>⟧.fault_count e) (take options.workers engines.old.items)) (map (λ e. ⟦<Box<dyn Engine + Send> as Engine>⟧.fault_count e) (take options.workers engines.new.items)) result)) }
+    ensures share { OnShare (asked_command (map (λ w. string_bytes w) words.now)) (λ options. ShareEnds options (K.written sink.old) (K.written sink.new) result) }
+    ensures share_reads_nothing { OnShare (asked_command (map (λ w. string_bytes w) words.now)) (λ _. source.new ≡ source.old) }
+    ensures share_runs { OnShare (asked_command (map (λ w. string_bytes w) words.now)) (λ options. result ≡ Status.Fine → RoseTogether (share_count options) (map (λ e. ⟦<Box<dyn Engine + Send> as Engine>⟧.run_count e) (take options.workers engines.old.items)) (map (λ e. ⟦<Box<dyn Engine + Send> as Engine>⟧.run_count e) (take options.workers engines.new.items))) }
+    ensures share_engine { OnShare (asked_command (map (λ w. string_bytes w) words.now)) (λ options. result ≡ Status.EngineFault → OneRose (map (λ e. ⟦<Box<dyn Engine + Send> as Engine>⟧.fault_count e) (take options.workers engines.old.items)) (map (λ e. ⟦<Box<dyn Engine + Send> as Engine>⟧.fault_count e) (take options.workers engines.new.items))) }
+    ensures share_completes { OnShare (asked_command (map (λ w. string_bytes w) words.now)) (λ options. ShareCompletes (K.faults sink.old) (K.faults sink.new) (map (λ e. ⟦<Box<dyn Engine + Send> as Engine>⟧.fault_count e) (take options.workers engines.old.items)) (map (λ e. ⟦<Box<dyn Engine + Send> as Engine>⟧.fault_count e) (take options.workers engines.new.items)) result) }
     ensures crew { vec_len engines.new ≡ 16 }
     ensures others { drop (engines_used (asked_command (map (λ w. string_bytes w) words.now))) engines.new.items ≡ drop (engines_used (asked_command (map (λ w. string_bytes w) words.now))) engines.old.items }
 {
@@ -127,6 +134,7 @@ pub fn top<R: Threads + Wait + Sync, S: Source, K: Sink>(
         Some(Command::Encode(options)) => encode_run(rt, alloc, &options, source, sink, engines),
         Some(Command::Decode(options)) => decode_run(rt, alloc, &options, source, sink, engines),
         Some(Command::Make(options)) => make_run(alloc, &options, sink),
+        Some(Command::Share(options)) => share_run(rt, alloc, &options, sink, engines),
         _ => Status::Usage,
     }
 }

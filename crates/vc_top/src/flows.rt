@@ -1,9 +1,9 @@
 //! What the commands let run beside workers, and how it ends.
 
-ghost use Rattle.std.specs.Prelude.{◌≡◌, ⊤};
+ghost use Rattle.std.specs.Prelude.{◌≡◌, ◌≤◌, ⊤};
 ghost use Rattle.vc_defs.specs.Laws.{AreRates};
 ghost use Rattle.vc_encode_flow.specs.Flows.{IsKept, rates_of};
-ghost use Rattle.vc_top.specs.Flows.{HasEncoded, HasDecoded, status_of_flow};
+ghost use Rattle.vc_top.specs.Flows.{HasEncoded, HasDecoded, HasShared, status_of_flow};
 
 use crate::status::Status;
 use std::alloc::Global;
@@ -12,7 +12,7 @@ use vc_base::Format;
 use vc_core::Rates;
 use vc_crew::Flow;
 use vc_decode_flow::decode_on;
-use vc_encode_flow::{FlowEnd, encode_on};
+use vc_encode_flow::{FlowEnd, Tally, encode_on, share_on};
 use vc_io::{Sink, Source};
 use vc_port::PayloadPort;
 
@@ -61,6 +61,31 @@ impl<S: Source, K: Sink> Flow for DecodeFlow<'_, S, K> {
 
     fn run<R: Wait, P: PayloadPort>(&mut self, rt: &R, alloc: Global, port: &mut P) -> FlowEnd {
         decode_on(rt, alloc, port, self.source, self.sink)
+    }
+}
+
+/// Pictures of the generator for a number that become frames, which are counted and folded.
+#[derive(Drop)]
+pub(crate) struct ShareFlow {
+    pub(crate) format: Format,
+    pub(crate) pictures: u32,
+    pub(crate) number: u32,
+}
+
+impl Flow for ShareFlow {
+    type End = Result<Tally, FlowEnd>;
+
+    ghost may = { λ f. IsKept f.format × (1 ≤ f.pictures) × (f.pictures ≤ 1000) × (f.number ≤ 1000063) };
+
+    ghost does = { λ f before after end now. HasShared f.format f.pictures f.number end before after };
+
+    fn run<R: Wait, P: PayloadPort>(
+        &mut self,
+        rt: &R,
+        alloc: Global,
+        port: &mut P,
+    ) -> Result<Tally, FlowEnd> {
+        share_on(rt, alloc, port, &self.format, self.pictures, self.number)
     }
 }
 

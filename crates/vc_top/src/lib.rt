@@ -1,6 +1,7 @@
 //! The commands of the program: `script` reads a script whole, carries out its lines on a device, and prints
 //! what they answer; `encode` codes raw pictures and `decode` decodes coded streams, both by workers; `make` writes
-//! pictures of the generator. docs/FORMAT.md has the grammar and the texts.
+//! pictures of the generator, and `share` codes them in many contexts at once. docs/FORMAT.md has the grammar and the
+//! texts.
 #![tactic(auto)]
 
 mod carry;
@@ -12,6 +13,7 @@ mod flows;
 mod input;
 pub mod laws;
 mod script;
+mod share;
 mod status;
 
 pub use commands::{script_run, top};
