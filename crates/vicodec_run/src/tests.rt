@@ -9,6 +9,7 @@ mod encoders;
 mod faults;
 mod make;
 mod outside;
+mod share;
 
 use std::alloc::Global;
 use std::sync::Wait;
