@@ -1,6 +1,6 @@
 //! What an encoder makes of the generator's pictures, found by coding one after another, without a device.
 
-ghost use Rattle.std.specs.Prelude.{◌≡◌, ◌<◌, length};
+ghost use Rattle.std.specs.Prelude.{◌≡◌, ◌<◌, length, vec_len, IfOk};
 ghost use Rattle.vc_defs.specs.Raw.{yu12};
 ghost use Rattle.vc_work.specs.Runs.{HasGeometry, format_geometry};
 
@@ -18,7 +18,7 @@ pub(crate) const PICTURES: u32 = 30;
 /// The bytes of a picture.
 pub(crate) const PICTURE_BYTES: usize = 152_064;
 
-/// The most bytes of a frame: a header, and the planes, which are padded by nothing.
+/// The most bytes of a frame: a header, and the planes, which have whole blocks without padding.
 pub(crate) const FRAME_BYTES: usize = 152_108;
 
 /// The format that `make` and `encode` have without options.
@@ -71,10 +71,17 @@ fn code_next(
     Ok(())
 }
 
+/// So many zeros.
+fn zeros(alloc: Global, count: usize) -> Result<Vec<u8>, Fail>
+    ensures { IfOk result (λ bytes. vec_len bytes ≡ count) }
+{
+    Ok(vec![in alloc; 0; count]?)
+}
+
 /// The first pictures of the generator for the number 0, coded from the first one on.
 pub(crate) fn code_all(alloc: Global) -> Result<Coded, Fail> {
-    let mut picture = vec![in alloc; 0; PICTURE_BYTES]?;
-    let mut frame = vec![in alloc; 0; FRAME_BYTES]?;
+    let mut picture = zeros(alloc, PICTURE_BYTES)?;
+    let mut frame = zeros(alloc, FRAME_BYTES)?;
     let mut reference = Reference::make(alloc, FORMAT.size)?;
     let mut coded = Coded {
         pictures: Vec::new(alloc),

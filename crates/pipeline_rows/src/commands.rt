@@ -12,7 +12,7 @@ use vc_io::{MemSink, MemSource};
 use vc_lanes::LaneEngine;
 use vc_top::{Status, top};
 
-/// How many bytes a read gives and a write takes at most: no divisor of a picture's.
+/// How many bytes a read gives and a write takes at most, so that pictures and frames are cut at many places.
 const STEP: usize = 65_536;
 
 /// The words of a command line.
