@@ -16,7 +16,7 @@ use vc_work::{Rates, Reference};
 pub(crate) const PICTURES: u32 = 30;
 
 /// The bytes of a picture.
-pub(crate) const PICTURE_BYTES: usize = 152_064;
+const PICTURE_BYTES: usize = 152_064;
 
 /// The most bytes of a frame: a header, and the planes, which have whole blocks without padding.
 pub(crate) const FRAME_BYTES: usize = 152_108;
