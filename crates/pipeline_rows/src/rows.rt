@@ -1,0 +1,48 @@
+//! Pictures of the generator through `make`, `encode` and `decode`.
+
+use crate::alone::{FRAME_BYTES, PICTURES, code_all};
+use crate::commands::run;
+use crate::stream::next_frame;
+use std::test::Fail;
+use vc_top::Status;
+
+/// Room for all frames, and so for all pictures.
+const ROOM: usize = PICTURES as usize * FRAME_BYTES;
+
+const MAKE: &[&str] = &["make", "--pictures", "30"];
+
+const ENCODE: &[&str] = &["encode", "--workers", "4"];
+
+const DECODE: &[&str] = &["decode", "--workers", "4"];
+
+/// Each tenth frame from the first on is an I frame. What comes back is exactly what the encoder had as its
+/// references, and not only like the pictures.
+#[test]
+fn pictures_come_back_as_the_encoder_had_them(rt: HostRuntime) -> Result<(), Fail> {
+    let alloc = rt.alloc();
+    let wanted = code_all(alloc)?;
+
+    let (status, pictures) = run(&rt, alloc, MAKE, Vec::new(alloc), ROOM)?;
+    assert_eq!(rt; status, Status::Fine);
+    assert_eq!(rt; pictures.len(), 4_561_920);
+    assert!(rt; pictures == wanted.pictures);
+
+    let (status, stream) = run(&rt, alloc, ENCODE, pictures, ROOM)?;
+    assert_eq!(rt; status, Status::Fine);
+    assert!(rt; stream == wanted.frames);
+    let mut rest = stream.as_slice();
+    for number in 0..PICTURES {
+        let Some((is_key, behind)) = next_frame(rest) else {
+            return Err(Fail::new("the stream has too few frames"));
+        };
+        assert_eq!(rt; is_key, number % 10 == 0, "frame {number}");
+        rest = behind;
+    }
+    assert!(rt; rest.is_empty());
+
+    let (status, shown) = run(&rt, alloc, DECODE, stream, ROOM)?;
+    assert_eq!(rt; status, Status::Fine);
+    assert_eq!(rt; shown.len(), 4_561_920);
+    assert!(rt; shown == wanted.reconstructions);
+    Ok(())
+}
