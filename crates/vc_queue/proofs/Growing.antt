@@ -37,20 +37,32 @@ none_stored zero k = refl
 none_stored (suc n) zero = refl
 none_stored (suc n) (suc k) = none_stored n k
 
-pub empty_sound : (lists : List (List ℕ)) (cells : List Cell) (payloads : List (Option (List ℕ))) → lists ≡ replicate 4 [] → AreApart lists → payloads ≡ replicate 32 None → IsSound lists cells payloads 0
+pub empty_sound : (lists : List (List ℕ)) (cells : List Cell) (payloads : List (Option (List ℕ))) → lists ≡ replicate 4 [] → AreApart lists → ((i : ℕ) → payload_at payloads i ≡ None) → IsSound lists cells payloads 0
 empty_sound lists cells payloads empty apart none =
     record {
       apart = apart;
       few = omega arith;
       cell_room = omega arith;
-      payload_room = ap length none;
+      payload_room = omega arith;
       placed = λ k i m. absurd (false≢true (subst (λ l. is_member i l ≡ true) (ap (λ l. list_at l k) empty ∙ none_listed 4 k) m));
       found = λ i h. absurd (omega (arith, h));
       total = ap (sum_by length) empty;
       stored = λ i h. absurd (omega (arith, h));
-      beyond = λ i h. ap (λ l. payload_at l i) none ∙ none_stored 32 i;
+      beyond = λ i h. none i;
       one_job = rw (ap (λ l. list_at l 2) empty) (omega arith);
     }
+
+-- so many empty places
+
+pub empty_room : (number : ℕ) (places : List (Option (List ℕ))) → places ≡ replicate number None → length places ≡ 0 + number
+empty_room number places e = ap length e ∙ (none_length number ∙ (let z : number ≡ 0 + number = omega arith in z))
+  where
+    none_length : (n : ℕ) → length {A = Option (List ℕ)} (replicate n None) ≡ n
+    none_length zero = refl
+    none_length (suc n) = ap suc (none_length n)
+
+pub empty_places : (number : ℕ) (places : List (Option (List ℕ))) → places ≡ replicate number None → (i : ℕ) → payload_at places i ≡ payload_at [] i
+empty_places number places e i = ap (λ l. payload_at l i) e ∙ none_stored number i
 
 -- the number of buffers
 
@@ -207,7 +219,7 @@ new_held more size first (suc number) h =
     ∙ ap (λ l. held_buffer first size ∷ l) (new_held more size (first + 1) number (λ j l k. h j (omega (arith, l)) (omega (arith, k))))
 
 -- so many buffers more
-module _ (old new : List (List ℕ)) (cells more : List Cell) (payloads : List (Option (List ℕ))) (first number size : ℕ) (s : IsSound old cells payloads first) (few : first + number ≤ 32) (grown : AreMore first number size cells more) (en : new ≡ set old 0 (list_at old 0 ++ numbers_from first number)) where
+module _ (old new : List (List ℕ)) (cells more : List Cell) (payloads places : List (Option (List ℕ))) (first number size : ℕ) (s : IsSound old cells payloads first) (few : first + number ≤ 32) (grown : AreMore first number size cells more) (room : length places ≡ first + number) (same : (i : ℕ) → payload_at places i ≡ payload_at payloads i) (en : new ≡ set old 0 (list_at old 0 ++ numbers_from first number)) where
   grown0 : list_at new 0 ≡ list_at old 0 ++ numbers_from first number
   grown0 = ap (λ l. list_at l 0) en ∙ get_or-set_same old 0 (list_at old 0 ++ numbers_from first number) [] (omega (arith, s.apart.four))
 
@@ -246,33 +258,34 @@ module _ (old new : List (List ℕ)) (cells more : List Cell) (payloads : List (
       (λ (z : first ≤ j). subst (λ k. is_member j (list_at new k) ≡ true) (sym (new_place j z h)) (new_member j z h))
       (cases_lt j first)
 
-  grown_stored : (j : ℕ) → j < first + number → IsStored (cell_at more j).place (cell_at more j) (payload_at payloads j)
+  grown_stored : (j : ℕ) → j < first + number → IsStored (cell_at more j).place (cell_at more j) (payload_at places j)
   grown_stored j h =
-      ⊎_elim
+      subst (λ p. IsStored (cell_at more j).place (cell_at more j) p) (sym (same j))
+      (⊎_elim
       (λ (z : j < first). subst (λ c. IsStored c.place c (payload_at payloads j)) (sym (grown.kept j z)) (s.stored j z))
       (λ (z : first ≤ j). subst (λ c. IsStored c.place c (payload_at payloads j)) (sym (grown.fresh j z h)) (s.beyond j z))
-      (cases_lt j first)
+      (cases_lt j first))
 
-  pub grown_sound : AreApart new → IsSound new more payloads (first + number)
+  pub grown_sound : AreApart new → IsSound new more places (first + number)
   grown_sound apart =
       record {
         apart = apart;
         few = few;
         cell_room = omega (arith, grown.room);
-        payload_room = s.payload_room;
+        payload_room = omega (arith, room);
         placed = grown_placed;
         found = grown_found;
         total = let s1 = sum_by-set length old 0 (list_at old 0 ++ numbers_from first number) [] (omega (arith, s.apart.four)) in
             omega (arith, s1, s.total, ap (sum_by length) en, length-append (list_at old 0) (numbers_from first number), length_from first number);
         stored = grown_stored;
-        beyond = λ j h. s.beyond j (omega (arith, h));
+        beyond = λ j h. same j ∙ s.beyond j (omega (arith, h));
         one_job = rw (ap length (grownk 2 (λ (z : 2 ≡ 0). omega arith))) s.one_job;
       }
 
-  same_list : (side : Side) (k : ℕ) → k ≢ 0 → map (buffer_at side more payloads) (list_at new k) ≡ map (buffer_at side cells payloads) (list_at old k)
+  same_list : (side : Side) (k : ℕ) → k ≢ 0 → map (buffer_at side more places) (list_at new k) ≡ map (buffer_at side cells payloads) (list_at old k)
   same_list side k n =
-      ap (map (buffer_at side more payloads)) (grownk k n)
-      ∙ map_same (buffer_at side more payloads) (buffer_at side cells payloads) (list_at old k) (λ j m. ap (λ c. buffer_of side j c (payload_at payloads j)) (grown.kept j (s.placed k j m).0))
+      ap (map (buffer_at side more places)) (grownk k n)
+      ∙ map_same (buffer_at side more places) (buffer_at side cells payloads) (list_at old k) (λ j m. ap (λ c. buffer_of side j c (payload_at places j)) (grown.kept j (s.placed k j m).0) ∙ ap (buffer_of side j (cell_at cells j)) (same j))
 
   more_held : map (held_at more) (list_at new 0) ≡ map (held_at cells) (list_at old 0) ++ new_buffers size first number
   more_held =
@@ -281,7 +294,7 @@ module _ (old new : List (List ℕ)) (cells more : List Cell) (payloads : List (
       ∙ (ap (λ l. l ++ map (held_at more) (numbers_from first number)) (map_same (held_at more) (held_at cells) (list_at old 0) (λ j m. ap (λ c. held_buffer j c.size) (grown.kept j (s.placed 0 j m).0)))
       ∙ ap (λ l. map (held_at cells) (list_at old 0) ++ l) (new_held more size first number grown.fresh)))
 
-  pub grown_state : (side : Side) (streams : Bool) (next_seq next_ordinal : ℕ) → state_of side streams next_seq next_ordinal new more payloads ≡ added (state_of side streams next_seq next_ordinal old cells payloads) size number
+  pub grown_state : (side : Side) (streams : Bool) (next_seq next_ordinal : ℕ) → state_of side streams next_seq next_ordinal new more places ≡ added (state_of side streams next_seq next_ordinal old cells payloads) size number
   grown_state side streams next_seq next_ordinal =
       same_queue side streams _ _ _ _ _ _ _ _ next_seq next_ordinal
       (more_held ∙ ap (λ n. map (held_at cells) (list_at old 0) ++ new_buffers size n number) (sym (number_is side streams next_seq next_ordinal old cells payloads first s)))

@@ -256,7 +256,7 @@ module _ (old m1 new : List (List ℕ)) (cells new_cells : List Cell) (payloads 
         apart = apart;
         few = s.few;
         cell_room = omega (arith, r.cell_room, s.cell_room);
-        payload_room = r.payload_room ∙ s.payload_room;
+        payload_room = omega (arith, r.payload_room, s.payload_room);
         placed = now_placed;
         found = λ i h. subst (λ k. is_member i (list_at new k) ≡ true) (sym (place_now i h)) (find_by i (cell_at cells i).place (s.found i h));
         total = drained_sum m1 new 3 0 m1_four (lit< tt) (lit< tt) (λ (z : 3 ≡ 0). omega arith) e2 ∙ (drained_sum old m1 1 0 s.apart.four (lit< tt) (lit< tt) (λ (z : 1 ≡ 0). omega arith) e1 ∙ s.total);

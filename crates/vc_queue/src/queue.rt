@@ -17,6 +17,7 @@ ghost use Rattle.vc_queue.specs.Releasing.{is_before, front_ordinal, goes_back, 
 use crate::cells::{Cell, Cells, Place};
 use crate::hold::Hold;
 use crate::payloads::Payloads;
+use crate::places::Places;
 use std::alloc::Global;
 use std::marker::Model;
 use vc_base::{Errno, NoMemory, Reply, Side, Stamp};
@@ -61,7 +62,7 @@ pub struct Queue {
     next_ordinal: u64,
     links: Links,
     cells: Cells,
-    payloads: Payloads,
+    payloads: Places,
 }
 
 impl Model for Queue {
@@ -144,9 +145,10 @@ fn goes_back(place: Place) -> bool
 }
 
 /// Moves the payloads of the buffers on ready and done to the user.
-fn release(side: Side, count: usize, cells: &mut Cells, payloads: &mut Payloads, hold: &mut Hold)
+fn release(side: Side, count: usize, cells: &mut Cells, payloads: &mut Places, hold: &mut Hold)
     requires few { count ≤ 32 }
-    requires there { count ≤ length cells.old }
+    requires cells { count ≤ length cells.old }
+    requires places { count ≤ length payloads.old }
     requires stored { AreStored count cells.old payloads.old }
     ensures { IsReleased side count cells.old payloads.old hold.old cells.new payloads.new hold.new }
 {
@@ -295,7 +297,7 @@ impl Queue {
             next_ordinal: 0,
             links: Links::new(),
             cells: Cells::none(),
-            payloads: Payloads::new(),
+            payloads: Places::none(),
         }
     }
 
@@ -435,9 +437,12 @@ impl Queue {
         let Ok(cells) = Cells::none().with_more(alloc, 0, end, length) else {
             return Err(Errno::NoMem);
         };
+        let Ok(places) = Places::empty(alloc, end) else {
+            return Err(Errno::NoMem);
+        };
         self.count = number;
         self.cells = cells;
-        self.payloads = Payloads::new();
+        self.payloads = places;
         self.links = Links::new();
         link_new(&mut self.links, 0, end);
         hold.clear(self.side);
@@ -474,6 +479,9 @@ impl Queue {
             return Err(Errno::NoMem);
         };
         let Ok(cells) = self.cells.with_more(alloc, start, more, length) else {
+            return Err(Errno::NoMem);
+        };
+        let Ok(()) = self.payloads.grow(alloc, start, more) else {
             return Err(Errno::NoMem);
         };
         self.count += number;
