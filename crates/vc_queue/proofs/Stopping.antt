@@ -10,9 +10,9 @@ use Rattle.vc_base.specs.declared.Side.{Side}
 use Rattle.vc_base.specs.declared.Side.TheVariants.{Out, Cap}
 use Rattle.vc_base.specs.Buffers.{Buffer, QueueState, with_index, held_again, known_bytes, streamoff_after}
 use Rattle.vc_links.specs.Lists.{list_at, AreApart}
-use Rattle.vc_queue.specs.declared.queue.Place.{Place}
-use Rattle.vc_queue.specs.declared.queue.Place.TheVariants.{Held, Ready, Job, Done}
-use Rattle.vc_queue.specs.declared.queue.Cell.{Cell}
+use Rattle.vc_queue.specs.declared.cells.Place.{Place}
+use Rattle.vc_queue.specs.declared.cells.Place.TheVariants.{Held, Ready, Job, Done}
+use Rattle.vc_queue.specs.declared.cells.Cell.{Cell}
 use Rattle.vc_queue.specs.Payloads.{payload_at}
 use Rattle.vc_queue.specs.Holds.{HoldState, side_of, held_payload, with_payload}
 use Rattle.vc_queue.specs.Releasing.{other_side, AllGoToUser, goes_back, released, is_released, IsReleased}
@@ -255,8 +255,8 @@ module _ (old m1 new : List (List ℕ)) (cells new_cells : List Cell) (payloads 
       record {
         apart = apart;
         few = s.few;
-        cell_room = r.cell_room ∙ s.cell_room;
-        payload_room = r.payload_room ∙ s.payload_room;
+        cell_room = omega (arith, r.cell_room, s.cell_room);
+        payload_room = omega (arith, r.payload_room, s.payload_room);
         placed = now_placed;
         found = λ i h. subst (λ k. is_member i (list_at new k) ≡ true) (sym (place_now i h)) (find_by i (cell_at cells i).place (s.found i h));
         total = drained_sum m1 new 3 0 m1_four (lit< tt) (lit< tt) (λ (z : 3 ≡ 0). omega arith) e2 ∙ (drained_sum old m1 1 0 s.apart.four (lit< tt) (lit< tt) (λ (z : 1 ≡ 0). omega arith) e1 ∙ s.total);

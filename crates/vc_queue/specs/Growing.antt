@@ -1,11 +1,14 @@
 -- New buffers of a queue.
-use Rattle.std.specs.Prelude.{ℕ, ◌≡◌, ◌<◌, ◌≤◌, ◌==◌, ◌||◌, ◌&&◌, nat_lt, Bool, true, false, length, replicate, Option, Some, None, Result, List, [], ◌∷◌, ◌++◌}
+use Rattle.std.specs.Prelude.{ℕ, zero, suc, ◌≡◌, ◌<◌, ◌≤◌, ◌+◌, ◌==◌, ◌||◌, ◌&&◌, nat_lt, Bool, true, false, length, replicate, Option, Some, None, Result, List, [], ◌∷◌, ◌++◌}
 use Rattle.std.specs.Option.{option_map}
 use Rattle.vc_base.specs.declared.Side.{Side}
 use Rattle.vc_base.specs.declared.Side.TheVariants.{Out, Cap}
 use Rattle.vc_base.specs.declared.Errno.{Errno}
 use Rattle.vc_base.specs.declared.Errno.TheVariants.{NoMem}
-use Rattle.vc_base.specs.Buffers.{QueueState, buffer_count, held_buffer, new_buffers, longest_buffer, most_buffers}
+use Rattle.vc_base.specs.Buffers.{QueueState, buffer_count, new_buffers, longest_buffer, most_buffers, zero_stamp}
+use Rattle.vc_queue.specs.declared.cells.Place.TheVariants.{Held}
+use Rattle.vc_queue.specs.declared.cells.Cell.{Cell}
+use Rattle.vc_queue.specs.Cells.{cell_at}
 use Rattle.vc_queue.specs.Answers.{answer_of, after_of}
 use Rattle.vc_queue.specs.Holds.{HoldState, side_of, held_payload}
 use Rattle.vc_queue.specs.Payloads.{payload_at}
@@ -38,13 +41,27 @@ abbrev pub HasNew : ℕ → ℕ → ℕ → List (Option (List ℕ)) → Type 0
 HasNew first end size payloads =
     (i : ℕ) → first ≤ i → i < end → option_map length (payload_at payloads i) ≡ Some size
 
--- the payload has the size
-abbrev pub IsLong : List ℕ → ℕ → Type 0
-IsLong payload size = length payload ≡ size
+-- the cell of a new buffer
+abbrev pub new_cell : ℕ → Cell
+new_cell size = record { place = Held; size = size; used = 0; cursor = 0; stamp = zero_stamp; flags = 0; seq = 0; ordinal = 0 }
 
--- one buffer more
-abbrev pub one_added : QueueState → ℕ → QueueState
-one_added q size = record q { held = q.held ++ held_buffer (buffer_count q) size ∷ [] }
+-- the first cells stay, and so many new ones follow
+pub record AreMore (first number size : ℕ) (old new : List Cell) : Type 0 where
+  pub room : length new ≡ first + number
+  pub kept : (i : ℕ) → i < first → cell_at new i ≡ cell_at old i
+  pub fresh : (i : ℕ) → first ≤ i → i < first + number → cell_at new i ≡ new_cell size
+
+-- so many numbers, from the first on
+abbrev pub numbers_from : ℕ → ℕ → List ℕ
+numbers_from first zero = []
+numbers_from first (suc number) = first ∷ numbers_from (first + 1) number
+
+-- The user gets payloads of so many buffers, from the first index on. The others stay as they were.
+pub record AreHandedOver (side : Side) (first number : ℕ) (payloads : List (Option (List ℕ))) (old new : HoldState) : Type 0 where
+  pub given : (i : ℕ) → i < number → held_payload new side (first + i) ≡ payload_at payloads i
+  pub kept : (i : ℕ) → i < first → held_payload new side i ≡ held_payload old side i
+  pub beyond : (i : ℕ) → first + number ≤ i → held_payload new side i ≡ held_payload old side i
+  pub other : side_of new (other_side side) ≡ side_of old (other_side side)
 
 -- so many buffers more
 abbrev pub added : QueueState → ℕ → ℕ → QueueState

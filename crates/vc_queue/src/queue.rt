@@ -5,16 +5,19 @@ ghost use Rattle.std.specs.List.{list_all, list_any};
 ghost use Rattle.std.specs.Option.{option_map, ok_or};
 ghost use Rattle.vc_base.specs.Buffers.{dqbuf_refusal, dqbuf_after, new_queue, buffer_count, long_enough, without_job_bytes, lend_after, give_back_after, retire_after, streamon_refusal, streamon_after, querybuf_reply, with_index, qbuf_refusal, qbuf_after, streamoff_after, most_buffers, reqbufs_refusal, reqbufs_after, create_refusal, created, create_after};
 ghost use Rattle.vc_base.specs.declared.Errno.TheVariants.{Inval};
-ghost use Rattle.vc_links.specs.Lists.{list_at};
+ghost use Rattle.vc_links.specs.Lists.{list_at, with_list, IsInSome, AreApart};
 ghost use Rattle.vc_queue.specs.Answers.{answer_of, after_of, front_taken, HandsBack, queued_bytes, is_too_short};
 ghost use Rattle.vc_queue.specs.Cells.{queued_cell, told_flags};
-ghost use Rattle.vc_queue.specs.Growing.{cannot_grow, AnswersWithMemory, KeepsFirst, HasNew, IsLong, one_added, added, cleared, without_side};
+ghost use Rattle.vc_queue.specs.Growing.{cannot_grow, AnswersWithMemory, KeepsFirst, HasNew, numbers_from, AreHandedOver};
 ghost use Rattle.vc_queue.specs.Holds.{Fits, with_payload};
+ghost use Rattle.vc_queue.specs.Payloads.{payload_at};
 ghost use Rattle.vc_queue.specs.Lending.{IsLentFrom, IsBack, back_bytes, queued_with};
 ghost use Rattle.vc_queue.specs.Releasing.{is_before, front_ordinal, goes_back, AreStored, IsReleased, AllGoToUser, is_fine};
 
+use crate::cells::{Cell, Cells, Place};
 use crate::hold::Hold;
 use crate::payloads::Payloads;
+use crate::places::Places;
 use std::alloc::Global;
 use std::marker::Model;
 use vc_base::{Errno, NoMemory, Reply, Side, Stamp};
@@ -30,28 +33,6 @@ const DONE: usize = 3;
 
 /// The longest buffer.
 const LONGEST: u32 = 17694764;
-
-/// Where a buffer is.
-#[derive(Clone, Copy, Debug, PartialEq, Eq)]
-enum Place {
-    Held,
-    Ready,
-    Job,
-    Done,
-}
-
-/// What a queue keeps of a buffer beside its payload.
-#[derive(Clone, Copy, Debug)]
-struct Cell {
-    place: Place,
-    size: u32,
-    used: u32,
-    cursor: u32,
-    stamp: Stamp,
-    flags: u32,
-    seq: u64,
-    ordinal: u64,
-}
 
 /// A buffer that a job has, with its payload. Its length in bytes is that of the payload.
 #[derive(Drop)]
@@ -80,8 +61,8 @@ pub struct Queue {
     next_seq: u64,
     next_ordinal: u64,
     links: Links,
-    cells: [Cell; 32],
-    payloads: Payloads,
+    cells: Cells,
+    payloads: Places,
 }
 
 impl Model for Queue {
@@ -94,17 +75,6 @@ impl Model for Queue {
 
     ghost invariant = { λ q. IsSound q.links q.cells q.payloads q.count };
 }
-
-const BLANK: Cell = Cell {
-    place: Place::Held,
-    size: 0,
-    used: 0,
-    cursor: 0,
-    stamp: Stamp(0),
-    flags: 0,
-    seq: 0,
-    ordinal: 0,
-};
 
 /// The number of cells of a list.
 fn list_len(links: &Links, list: usize) -> u32
@@ -175,19 +145,15 @@ fn goes_back(place: Place) -> bool
 }
 
 /// Moves the payloads of the buffers on ready and done to the user.
-fn release(
-    side: Side,
-    count: usize,
-    cells: &mut [Cell; 32],
-    payloads: &mut Payloads,
-    hold: &mut Hold,
-)
+fn release(side: Side, count: usize, cells: &mut Cells, payloads: &mut Places, hold: &mut Hold)
     requires few { count ≤ 32 }
+    requires cells { count ≤ length cells.old }
+    requires places { count ≤ length payloads.old }
     requires stored { AreStored count cells.old payloads.old }
     ensures { IsReleased side count cells.old payloads.old hold.old cells.new payloads.new hold.new }
 {
     for slot in 0..count {
-        let cell = cells[slot];
+        let cell = cells.get(slot);
         if !goes_back(cell.place) {
             continue;
         }
@@ -195,10 +161,13 @@ fn release(
             unreachable!()
         };
         hold.put(side, slot, payload);
-        cells[slot] = Cell {
-            place: Place::Held,
-            ..cell
-        };
+        cells.set(
+            slot,
+            Cell {
+                place: Place::Held,
+                ..cell
+            },
+        );
     }
 }
 
@@ -215,12 +184,12 @@ fn is_fine(place: Place, size: u32, least: u32) -> bool
 }
 
 /// Whether no ready buffer is shorter than the least size.
-fn none_short(cells: &[Cell; 32], count: usize, least: u32) -> bool
-    requires { count ≤ 32 }
+fn none_short(cells: &Cells, count: usize, least: u32) -> bool
+    requires { count ≤ length cells.now }
     ensures { result ≡ list_all (λ c. is_fine c.place c.size least) (take count cells.now) }
 {
     for slot in 0..count {
-        let cell = cells[slot];
+        let cell = cells.get(slot);
         if !is_fine(cell.place, cell.size, least) {
             return false;
         }
@@ -229,12 +198,12 @@ fn none_short(cells: &[Cell; 32], count: usize, least: u32) -> bool
 }
 
 /// Whether some buffer has the least size.
-fn some_long(cells: &[Cell; 32], count: usize, least: u32) -> bool
-    requires { count ≤ 32 }
+fn some_long(cells: &Cells, count: usize, least: u32) -> bool
+    requires { count ≤ length cells.now }
     ensures { result ≡ list_any (λ c. nat_le least c.size) (take count cells.now) }
 {
     for slot in 0..count {
-        let cell = cells[slot];
+        let cell = cells.get(slot);
         if least <= cell.size {
             return true;
         }
@@ -255,12 +224,12 @@ fn is_before(place: Place, ordinal: u64, mark: u64) -> bool
 }
 
 /// Whether some ready buffer is before the mark.
-fn some_before(cells: &[Cell; 32], count: usize, mark: u64) -> bool
-    requires { count ≤ 32 }
+fn some_before(cells: &Cells, count: usize, mark: u64) -> bool
+    requires { count ≤ length cells.now }
     ensures { result ≡ list_any (λ c. is_before c.place c.ordinal mark) (take count cells.now) }
 {
     for slot in 0..count {
-        let cell = cells[slot];
+        let cell = cells.get(slot);
         if is_before(cell.place, cell.ordinal, mark) {
             return true;
         }
@@ -288,6 +257,33 @@ fn new_payloads(alloc: Global, number: usize, size: u32) -> Result<Payloads, NoM
     Ok(payloads)
 }
 
+/// Puts the cells of new buffers into the list of what the user holds.
+fn link_new(links: &mut Links, first: usize, number: usize)
+    requires few { first + number ≤ 32 }
+    requires apart { AreApart links.old }
+    requires free { (cell : ℕ) → first ≤ cell → ¬ IsInSome links.old cell }
+    ensures linked { links.new ≡ with_list links.old 0 (list_at links.old 0 ++ numbers_from first number) }
+    ensures apart { AreApart links.new }
+{
+    for i in 0..number {
+        links.push_back(HELD, first + i);
+    }
+}
+
+/// Hands the payloads of new buffers to the user.
+fn hand_over(side: Side, first: usize, number: usize, payloads: &mut Payloads, hold: &mut Hold)
+    requires few { first + number ≤ 32 }
+    requires there { (i : ℕ) → i < number → IsTrue (is_some (payload_at payloads.old i)) }
+    ensures { AreHandedOver side first number payloads.old hold.old hold.new }
+{
+    for i in 0..number {
+        let Some(payload) = payloads.take(i) else {
+            unreachable!()
+        };
+        hold.put(side, first + i, payload);
+    }
+}
+
 impl Queue {
     /// A queue without buffers, which does not stream.
     pub fn new(side: Side) -> Queue
@@ -300,8 +296,8 @@ impl Queue {
             next_seq: 0,
             next_ordinal: 0,
             links: Links::new(),
-            cells: [BLANK; 32],
-            payloads: Payloads::new(),
+            cells: Cells::none(),
+            payloads: Places::none(),
         }
     }
 
@@ -374,7 +370,7 @@ impl Queue {
         let Some(index) = self.links.front(READY) else {
             return None;
         };
-        Some(self.cells[index].ordinal)
+        Some(self.cells.get(index).ordinal)
     }
 
     /// The used bytes of the buffer in the job, and its stamp, as it was queued.
@@ -384,7 +380,7 @@ impl Queue {
         let Some(index) = self.links.front(JOB) else {
             return None;
         };
-        let cell = self.cells[index];
+        let cell = self.cells.get(index);
         Some((cell.used, cell.stamp))
     }
 
@@ -412,52 +408,6 @@ impl Queue {
         }
     }
 
-    /// Drops all buffers.
-    fn clear(&mut self, hold: &mut Hold)
-        ensures after { self.new ≡ cleared self.old }
-        ensures payloads { hold.new ≡ without_side hold.old self.old.side }
-        ensures fit { Fits self.new hold.new }
-    {
-        self.count = 0;
-        self.links = Links::new();
-        self.cells = [BLANK; 32];
-        self.payloads = Payloads::new();
-        hold.clear(self.side);
-    }
-
-    /// Adds one held buffer, with the next index.
-    fn add_one(&mut self, size: u32, payload: Vec<u8>, hold: &mut Hold)
-        requires room { buffer_count self.old < 32 }
-        requires long { IsLong payload.items size }
-        requires fit { Fits self.old hold.old }
-        ensures after { self.new ≡ one_added self.old size }
-        ensures payload { hold.new ≡ with_payload hold.old self.old.side (buffer_count self.old) (Some payload.items) }
-        ensures fit { Fits self.new hold.new }
-    {
-        let index = self.count as usize;
-        self.links.push_back(HELD, index);
-        self.cells[index] = Cell { size, ..BLANK };
-        hold.put(self.side, index, payload);
-        self.count += 1;
-    }
-
-    /// Adds held buffers, with the next indices.
-    fn add(&mut self, buffers: usize, size: u32, payloads: &mut Payloads, hold: &mut Hold)
-        requires room { buffer_count self.old + buffers ≤ 32 }
-        requires long { HasNew 0 buffers size payloads.old }
-        requires fit { Fits self.old hold.old }
-        ensures after { self.new ≡ added self.old size buffers }
-        ensures kept { KeepsFirst self.old.side (buffer_count self.old) hold.old hold.new }
-        ensures fit { Fits self.new hold.new }
-    {
-        for i in 0..buffers {
-            let Some(payload) = payloads.take(i) else {
-                unreachable!()
-            };
-            self.add_one(size, payload, hold);
-        }
-    }
-
     /// VIDIOC_REQBUFS: drops all buffers, and makes `count` new ones of `length` bytes, 32 at most,
     /// which the user holds. Gives their number.
     ///
@@ -480,11 +430,23 @@ impl Queue {
             return Err(Errno::Busy);
         }
         let number = count.min(32);
-        let Ok(mut payloads) = new_payloads(alloc, number as usize, length) else {
+        let end = number as usize;
+        let Ok(mut payloads) = new_payloads(alloc, end, length) else {
             return Err(Errno::NoMem);
         };
-        self.clear(hold);
-        self.add(number as usize, length, &mut payloads, hold);
+        let Ok(cells) = Cells::none().with_more(alloc, 0, end, length) else {
+            return Err(Errno::NoMem);
+        };
+        let Ok(places) = Places::empty(alloc, end) else {
+            return Err(Errno::NoMem);
+        };
+        self.count = number;
+        self.cells = cells;
+        self.payloads = places;
+        self.links = Links::new();
+        link_new(&mut self.links, 0, end);
+        hold.clear(self.side);
+        hand_over(self.side, 0, end, &mut payloads, hold);
         Ok(number)
     }
 
@@ -512,10 +474,20 @@ impl Queue {
             return Err(Errno::Inval);
         }
         let number = count.min(32 - first);
-        let Ok(mut payloads) = new_payloads(alloc, number as usize, length) else {
+        let (start, more) = (first as usize, number as usize);
+        let Ok(mut payloads) = new_payloads(alloc, more, length) else {
             return Err(Errno::NoMem);
         };
-        self.add(number as usize, length, &mut payloads, hold);
+        let Ok(cells) = self.cells.with_more(alloc, start, more, length) else {
+            return Err(Errno::NoMem);
+        };
+        let Ok(()) = self.payloads.grow(alloc, start, more) else {
+            return Err(Errno::NoMem);
+        };
+        self.count += number;
+        self.cells = cells;
+        link_new(&mut self.links, start, more);
+        hand_over(self.side, start, more, &mut payloads, hold);
         Ok((first, number))
     }
 
@@ -563,7 +535,7 @@ impl Queue {
         if index >= count {
             return Err(Errno::Inval);
         }
-        let cell = self.cells[index as usize];
+        let cell = self.cells.get(index as usize);
         Ok(Reply::Info {
             index,
             length: cell.size,
@@ -579,7 +551,7 @@ impl Queue {
         if index >= count {
             return None;
         }
-        let cell = self.cells[index as usize];
+        let cell = self.cells.get(index as usize);
         match cell.place {
             Place::Held => Some(cell.size),
             Place::Ready => None,
@@ -623,7 +595,8 @@ impl Queue {
         self.links.unlink(slot);
         self.links.push_back(READY, slot);
         self.payloads.put(slot, payload);
-        self.cells[slot] = queued(self.side, size, used, stamp, self.next_ordinal);
+        let cell = queued(self.side, size, used, stamp, self.next_ordinal);
+        self.cells.set(slot, cell);
         self.next_ordinal += 1;
         Ok(())
     }
@@ -642,11 +615,14 @@ impl Queue {
         let Some(payload) = self.payloads.take(index) else {
             unreachable!()
         };
-        let cell = self.cells[index];
-        self.cells[index] = Cell {
-            place: Place::Job,
-            ..cell
-        };
+        let cell = self.cells.get(index);
+        self.cells.set(
+            index,
+            Cell {
+                place: Place::Job,
+                ..cell
+            },
+        );
         Lent {
             index: index as u32,
             used: cell.used,
@@ -675,12 +651,15 @@ impl Queue {
         };
         self.links.push_front(READY, index);
         self.payloads.put(index, payload);
-        let cell = self.cells[index];
-        self.cells[index] = Cell {
-            place: Place::Ready,
-            cursor,
-            ..cell
-        };
+        let cell = self.cells.get(index);
+        self.cells.set(
+            index,
+            Cell {
+                place: Place::Ready,
+                cursor,
+                ..cell
+            },
+        );
     }
 
     /// Puts the lent buffer at the end of done, with used bytes, flags and stamp as given, and the next
@@ -703,15 +682,18 @@ impl Queue {
         };
         self.links.push_back(DONE, index);
         self.payloads.put(index, payload);
-        let cell = self.cells[index];
-        self.cells[index] = Cell {
-            place: Place::Done,
-            used,
-            stamp,
-            flags,
-            seq: self.next_seq,
-            ..cell
-        };
+        let cell = self.cells.get(index);
+        self.cells.set(
+            index,
+            Cell {
+                place: Place::Done,
+                used,
+                stamp,
+                flags,
+                seq: self.next_seq,
+                ..cell
+            },
+        );
         self.next_seq += 1;
     }
 
@@ -746,11 +728,14 @@ impl Queue {
             unreachable!()
         };
         hold.put(self.side, index, payload);
-        let cell = self.cells[index];
-        self.cells[index] = Cell {
-            place: Place::Held,
-            ..cell
-        };
+        let cell = self.cells.get(index);
+        self.cells.set(
+            index,
+            Cell {
+                place: Place::Held,
+                ..cell
+            },
+        );
         Ok(Reply::Taken {
             index: index as u32,
             used: cell.used,
