@@ -50,10 +50,9 @@ pub struct Lent {
 }
 
 /// One queue of a context, with 0 to 32 buffers. Each buffer is in one place: with the user, ready, in
-/// the job or done. Each buffer has a cell, and four lists over the cells tell where each is. Cells and
-/// places for payloads take memory for the buffers that the queue has, and none before there are any.
-/// The rules are those of the chapter "Input/Output" of the Linux userspace API documentation, as far
-/// as docs/DEVICE.md does not say otherwise.
+/// the job or done. The buffers lie in an array of cells, and four lists over the cells tell where each
+/// is. The rules are those of the chapter "Input/Output" of the Linux userspace API documentation, as
+/// far as docs/DEVICE.md does not say otherwise.
 #[derive(Drop)]
 pub struct Queue {
     side: Side,
