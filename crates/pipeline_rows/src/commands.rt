@@ -24,12 +24,29 @@ fn words(alloc: Global, line: &[&str]) -> Result<Vec<String>, Fail> {
     Ok(words)
 }
 
-/// Runs a command line on an input, with plain, fast and lane engines in turn: how it ended, and what it wrote, with
-/// room for so many bytes.
+/// Which engines the workers have.
+#[derive(Clone, Copy, Debug, PartialEq, Eq)]
+pub(crate) enum Engines {
+    /// Plain, fast and lane engines in turn.
+    InTurn,
+    /// Plain engines alone.
+    Plain,
+}
+
+/// The sort of the engine with this number: plain, fast or by lanes.
+fn sort_of(engines: Engines, number: u32) -> u32 {
+    match engines {
+        Engines::InTurn => number % 3,
+        Engines::Plain => 0,
+    }
+}
+
+/// Runs a command line on an input: how it ended, and what it wrote, with room for so many bytes.
 pub(crate) fn run<R: Threads + Wait + Sync>(
     rt: &R,
     alloc: Global,
     line: &[&str],
+    sorts: Engines,
     input: Vec<u8>,
     room: usize,
 ) -> Result<(Status, Vec<u8>), Fail> {
@@ -38,7 +55,7 @@ pub(crate) fn run<R: Threads + Wait + Sync>(
     let mut sink = MemSink::make(alloc, room, STEP, Vec::new(alloc))?;
     let mut engines: Vec<Box<dyn Engine + Send>> = Vec::new(alloc);
     for number in 0..16u32 {
-        match number % 3 {
+        match sort_of(sorts, number) {
             0 => engines.push(Box::new(alloc, PlainEngine::new())?)?,
             1 => engines.push(Box::new(alloc, FastEngine::new())?)?,
             _ => engines.push(Box::new(alloc, LaneEngine::new())?)?,

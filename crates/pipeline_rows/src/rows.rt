@@ -1,7 +1,7 @@
 //! Pictures of the generator through `make`, `encode` and `decode`.
 
 use crate::alone::{FRAME_BYTES, PICTURES, code_all};
-use crate::commands::run;
+use crate::commands::{Engines, run};
 use crate::stream::next_frame;
 use std::test::Fail;
 use vc_top::Status;
@@ -13,6 +13,8 @@ const MAKE: &[&str] = &["make", "--pictures", "30"];
 
 const ENCODE: &[&str] = &["encode", "--workers", "4"];
 
+const BY_THREE: &[&str] = &["encode", "--workers", "3"];
+
 const DECODE: &[&str] = &["decode", "--workers", "4"];
 
 /// Each tenth frame from the first on is an I frame. What comes back is exactly what the encoder had as its
@@ -22,12 +24,12 @@ fn pictures_come_back_as_the_encoder_had_them(rt: HostRuntime) -> Result<(), Fai
     let alloc = rt.alloc();
     let wanted = code_all(alloc)?;
 
-    let (status, pictures) = run(&rt, alloc, MAKE, Vec::new(alloc), ROOM)?;
+    let (status, pictures) = run(&rt, alloc, MAKE, Engines::InTurn, Vec::new(alloc), ROOM)?;
     assert_eq!(rt; status, Status::Fine);
     assert_eq!(rt; pictures.len(), 4_561_920);
     assert!(rt; pictures == wanted.pictures);
 
-    let (status, stream) = run(&rt, alloc, ENCODE, pictures, ROOM)?;
+    let (status, stream) = run(&rt, alloc, ENCODE, Engines::InTurn, pictures, ROOM)?;
     assert_eq!(rt; status, Status::Fine);
     assert!(rt; stream == wanted.frames);
     let mut rest = stream.as_slice();
@@ -40,9 +42,24 @@ fn pictures_come_back_as_the_encoder_had_them(rt: HostRuntime) -> Result<(), Fai
     }
     assert!(rt; rest.is_empty());
 
-    let (status, shown) = run(&rt, alloc, DECODE, stream, ROOM)?;
+    let (status, shown) = run(&rt, alloc, DECODE, Engines::InTurn, stream, ROOM)?;
     assert_eq!(rt; status, Status::Fine);
     assert_eq!(rt; shown.len(), 4_561_920);
     assert!(rt; shown == wanted.reconstructions);
+    Ok(())
+}
+
+/// Whatever engines the workers have, the frames are the same.
+#[test]
+fn engines_of_every_sort_write_the_same_frames(rt: HostRuntime) -> Result<(), Fail> {
+    let alloc = rt.alloc();
+    let (_, pictures) = run(&rt, alloc, MAKE, Engines::InTurn, Vec::new(alloc), ROOM)?;
+    let again = pictures.clone()?;
+    let (status, plain) = run(&rt, alloc, BY_THREE, Engines::Plain, pictures, ROOM)?;
+    assert_eq!(rt; status, Status::Fine);
+    let (status, mixed) = run(&rt, alloc, BY_THREE, Engines::InTurn, again, ROOM)?;
+    assert_eq!(rt; status, Status::Fine);
+    assert!(rt; !plain.is_empty());
+    assert!(rt; plain == mixed);
     Ok(())
 }
