@@ -100,7 +100,7 @@ pub fn top<R: Threads + Wait + Sync, S: Source, K: Sink>(
 ) -> Status
     requires { vec_len engines.old ≡ 16 }
 
-    // The words of a command that is not built yet are no usage either.
+    // The words of a command that is not built yet are answered as wrong words are.
     ensures usage { (result ≡ Status.Usage) ↔ (asked_command (map (λ w. string_bytes w) words.now) ≡ None) }
     ensures untouched { asked_command (map (λ w. string_bytes w) words.now) ≡ None → (source.new ≡ source.old) × (sink.new ≡ sink.old) × (engines.new ≡ engines.old) }
     ensures script { OnScript (asked_command (map (λ w. string_bytes w) words.now)) (λ slots. IfSome (S.left source.old) (λ input. IfSome (slice_get engines.old.items 0) (λ before. IfSome (slice_get engines.new.items 0) (λ now. ScriptEnds slots input (S.left source.new) (K.written sink.old) (K.written sink.new) (record { runs = ⟦<Box<dyn Engine + Send> as Engine>⟧.run_count before; faults = ⟦<Box<dyn Engine + Send> as Engine>⟧.fault_count before }) (record { runs = ⟦<Box<dyn Engine + Send> as Engine>⟧.run_count now; faults = ⟦<Box<dyn Engine + Send> as Engine>⟧.fault_count now }) result)))) }
