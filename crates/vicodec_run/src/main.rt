@@ -25,11 +25,17 @@ const ENGINES: u32 = 16;
 /// The bytes of output that are kept back before they are handed on.
 const OUTPUT_BUFFER: usize = 65_536;
 
-/// The words behind the program's name.
+/// The words behind the program's name. A word that is not UTF-8 is in no grammar.
 fn words(rt: &(impl Env + Alloc<A = Global>)) -> Result<Vec<String>, Status> {
     let mut words = Vec::new(rt.alloc());
-    let Ok(args) = env::args(rt) else {
-        return Err(Status::Usage);
+    let args = match env::args(rt) {
+        Ok(args) => args,
+        Err(error) => {
+            return Err(match error.kind() {
+                io::ErrorKind::OutOfMemory => Status::NoMemory,
+                _ => Status::Usage,
+            });
+        }
     };
     for word in args.skip(1) {
         if words.push(word).is_err() {
