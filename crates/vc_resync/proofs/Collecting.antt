@@ -124,9 +124,13 @@ heads_front limit head rest h long front is = (
   ap (λ t. header_from limit t) (take_at head rest 44 long) ∙ is,
 )
 
+-- no byte of a body is there
+alone : (head body : List ℕ) → body ≡ [] → head ++ body ≡ head
+alone head body empty = ap (λ t. head ++ t) empty ∙ append-nil head
+
 -- a header that was read
-pub head_open : (limit : ℕ) (head body : List ℕ) (h : Header) (count now : ℕ) → length head ≡ 44 → take 8 head ≡ magic → header_from limit head ≡ Some h → IsLegal limit h → Sought 0 (drop 8 head) count now → IsOpen limit head body h 0 now
-head_open limit head body h count now long front is legal s =
+pub head_open : (limit : ℕ) (head body : List ℕ) (h : Header) (count now : ℕ) → body ≡ [] → length head ≡ 44 → take 8 head ≡ magic → header_from limit head ≡ Some h → IsLegal limit h → Sought 0 (drop 8 head) count now → IsOpen limit head body h now
+head_open limit head body h count now empty long front is legal s =
     let none : first_magic (drop 8 head) ≡ None =
     ap (λ t. first_magic (drop 8 t)) (sym (append-nil head)) ∙ header_alone limit (head ++ []) h (heads_front limit head [] h long front is) (ap length (append-nil head) ∙ long) in
     let few : now < 8 = less none in
@@ -136,9 +140,9 @@ head_open limit head body h count now long front is legal s =
       legal = legal;
       front = front;
       room = size_within limit h legal.0;
-      part = omega arith;
+      part = omega (arith, ap length empty);
       few = few;
-      matches = subst (λ (t : List ℕ). Matches t now) (all ∙ ap (λ t. drop 8 t) (sym (append-nil head))) s.matches;
+      matches = subst (λ (t : List ℕ). Matches t now) (all ∙ ap (λ t. drop 8 t) (sym (alone head body empty))) s.matches;
     }
   where
     by_test : (b : Bool) → nat_lt now 8 ≡ b → first_magic (drop 8 head) ≡ None → now < 8
@@ -152,10 +156,10 @@ head_open limit head body h count now long front is legal s =
     less : first_magic (drop 8 head) ≡ None → now < 8
     less none = by_test (nat_lt now 8) refl none
 
-pub head_taken : (limit : ℕ) (head body tail bytes : List ℕ) (h : Header) → length head ≡ 44 → take 8 head ≡ magic → header_from limit head ≡ Some h → tail ++ bytes ≡ head → 0 < length tail → length tail < 44 → Taken limit tail bytes (HeadFound h) body (head ++ [])
-head_taken limit head body tail bytes h long front is all some few =
+pub head_taken : (limit : ℕ) (head body tail bytes : List ℕ) (h : Header) → body ≡ [] → length head ≡ 44 → take 8 head ≡ magic → header_from limit head ≡ Some h → tail ++ bytes ≡ head → 0 < length tail → length tail < 44 → Taken limit tail bytes (HeadFound h) body (head ++ body)
+head_taken limit head body tail bytes h empty long front is all some few =
     let heads : Heads limit (tail ++ bytes) h = subst (λ (t : List ℕ). Heads limit t h) (append-nil head ∙ sym all) (heads_front limit head [] h long front is) in
-    subst (λ (t : List ℕ). Taken limit tail bytes (HeadFound h) body t) (all ∙ sym (append-nil head))
+    subst (λ (t : List ℕ). Taken limit tail bytes (HeadFound h) body t) (all ∙ sym (alone head body empty))
     (take_head limit tail bytes body h heads (ap length all ∙ long) some few)
 
 pub illegal_taken : (limit : ℕ) (head body tail bytes after : List ℕ) (count now : ℕ) → length head ≡ 44 → take 8 head ≡ magic → header_from limit head ≡ None → Sought 0 (drop 8 head) count now →

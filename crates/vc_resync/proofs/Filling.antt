@@ -2,7 +2,7 @@
 use Rattle.std.proofs.Common.{◌≡◌, ◌≢◌, ◌∙◌, sym, ap, refl, subst, ℕ, suc, ◌+◌, ◌-◌, ◌<◌, ◌≤◌, List, [], ◌∷◌, ◌++◌, length, take, drop, arith, append_assoc, length-append, length-drop}
 use Rattle.std.specs.Prelude.{Bool, true, false, nat_lt, cond}
 use Rattle.std.proofs.lemmas.Bool.Decides.{nat_tests}
-use Rattle.std.proofs.lemmas.List.{take_all, drop-drop, length-take-le, drop-append-le, drop_at}
+use Rattle.std.proofs.lemmas.List.{drop-drop, drop-append-le, drop_at}
 use Rattle.vc_defs.specs.declared.Header.{Header}
 use Rattle.vc_defs.specs.Headers.{magic}
 use Rattle.vc_defs.specs.Places.{start_of_magic}
@@ -10,9 +10,8 @@ use Rattle.vc_defs.proofs.Looking.{is_start}
 use Rattle.vc_defs.proofs.Splitting.{Heads}
 use Rattle.vc_resync.specs.declared.feeding.Found.TheVariants.{More, Whole, Cut}
 use Rattle.vc_resync.specs.Seeking.{Matches}
-use Rattle.vc_resync.specs.Collecting.{put_at, IsOpen, Taken}
+use Rattle.vc_resync.specs.Collecting.{IsOpen, Taken}
 use Rattle.vc_resync.proofs.Matching.{length_of_matched, none_there, one_there, matched_few, matches_on}
-use Rattle.vc_resync.proofs.Putting.{length_put, put_to_end}
 use Rattle.vc_resync.proofs.Taking.{take_open, take_whole, take_cut}
 use Rattle.vc_resync.proofs.Collecting.{magic_at_end, heads_front}
 
@@ -39,73 +38,69 @@ start_in_last (y ∷ ys) h = by_size (nat_lt (length ys) 7) refl (is_start (y �
         by_start b long few inner ∙ ap (λ t. cond t (y ∷ ys) (start_of_magic ys)) (sym s)
 
 -- the bytes of a frame so far, and those that go on
-pub fill_matches : (limit : ℕ) (head body bytes : List ℕ) (h : Header) (filled matched now : ℕ) → length head ≡ 44 → IsOpen limit head body h filled matched → Matches (take matched magic ++ bytes) now → Matches (drop 8 (head ++ take filled body ++ bytes)) now
-fill_matches limit head body bytes h filled matched now long so_far s =
-    subst (λ (t : List ℕ). Matches t now) (sym (drop-append-le 8 (head ++ take filled body) bytes (omega (arith, long, length-append head (take filled body)))))
-    (matches_on (drop 8 (head ++ take filled body)) bytes matched now so_far.matches so_far.few s)
+pub fill_matches : (limit : ℕ) (head body bytes : List ℕ) (h : Header) (matched now : ℕ) → length head ≡ 44 → IsOpen limit head body h matched → Matches (take matched magic ++ bytes) now → Matches (drop 8 (head ++ body ++ bytes)) now
+fill_matches limit head body bytes h matched now long so_far s =
+    subst (λ (t : List ℕ). Matches t now) (sym (drop-append-le 8 (head ++ body) bytes (omega (arith, long, length-append head body))))
+    (matches_on (drop 8 (head ++ body)) bytes matched now so_far.matches so_far.few s)
 
-fill_heads : (limit : ℕ) (head body bytes : List ℕ) (h : Header) (filled matched : ℕ) → length head ≡ 44 → IsOpen limit head body h filled matched → Heads limit (head ++ take filled body ++ bytes) h
-fill_heads limit head body bytes h filled matched long so_far =
-    subst (λ (t : List ℕ). Heads limit t h) (sym (append_assoc head (take filled body) bytes)) (heads_front limit head (take filled body ++ bytes) h long so_far.front so_far.header)
+fill_heads : (limit : ℕ) (head body bytes : List ℕ) (h : Header) (matched : ℕ) → length head ≡ 44 → IsOpen limit head body h matched → Heads limit (head ++ body ++ bytes) h
+fill_heads limit head body bytes h matched long so_far =
+    subst (λ (t : List ℕ). Heads limit t h) (sym (append_assoc head body bytes)) (heads_front limit head (body ++ bytes) h long so_far.front so_far.header)
 
-fill_length : (limit : ℕ) (head body bytes : List ℕ) (h : Header) (filled matched : ℕ) → length head ≡ 44 → h.size ≤ length body → IsOpen limit head body h filled matched → length (head ++ take filled body ++ bytes) ≡ 44 + filled + length bytes
-fill_length limit head body bytes h filled matched long room so_far =
-    omega (arith, long, length-append (head ++ take filled body) bytes, length-append head (take filled body), length-take-le filled body (omega (arith, so_far.part, room)))
+fill_length : (head body bytes : List ℕ) → length head ≡ 44 → length (head ++ body ++ bytes) ≡ 44 + length body + length bytes
+fill_length head body bytes long = omega (arith, long, length-append (head ++ body) bytes, length-append head body)
 
-pub cut_taken : (limit : ℕ) (head body bytes : List ℕ) (h : Header) (filled matched now : ℕ) → length head ≡ 44 → h.size ≤ length body → IsOpen limit head body h filled matched → Matches (take matched magic ++ bytes) now → now ≡ 8 → filled + length bytes ≤ h.size →
-    Taken limit (head ++ take filled body) bytes (Cut h) body (take 8 head)
-cut_taken limit head body bytes h filled matched now long room so_far s is high =
-    let xs : List ℕ = head ++ take filled body ++ bytes in
-    let m : Matches (drop 8 xs) now = fill_matches limit head body bytes h filled matched now long so_far s in
-    let total : length xs ≡ 44 + filled + length bytes = fill_length limit head body bytes h filled matched long room so_far in
+pub cut_taken : (limit : ℕ) (head body bytes : List ℕ) (h : Header) (matched now : ℕ) → length head ≡ 44 → IsOpen limit head body h matched → Matches (take matched magic ++ bytes) now → now ≡ 8 → length body + length bytes ≤ h.size →
+    Taken limit (head ++ body) bytes (Cut h) body (take 8 head)
+cut_taken limit head body bytes h matched now long so_far s is high =
+    let xs : List ℕ = head ++ body ++ bytes in
+    let m : Matches (drop 8 xs) now = fill_matches limit head body bytes h matched now long so_far s in
+    let total : length xs ≡ 44 + length body + length bytes = fill_length head body bytes long in
     let few : now ≤ length (drop 8 xs) = matched_few (drop 8 xs) now m in
     let rest : length (drop 8 xs) ≡ length xs - 8 = length-drop 8 xs in
-    subst (λ (t : List ℕ). Taken limit (head ++ take filled body) bytes (Cut h) body t) (sym (drop-drop (length (drop 8 xs) - 8) 8 xs) ∙ magic_at_end (drop 8 xs) now m is ∙ sym so_far.front)
-    (take_cut limit (head ++ take filled body) bytes body h (length (drop 8 xs) - 8) (fill_heads limit head body bytes h filled matched long so_far) (omega (arith, long, length-append head (take filled body)))
+    subst (λ (t : List ℕ). Taken limit (head ++ body) bytes (Cut h) body t) (sym (drop-drop (length (drop 8 xs) - 8) 8 xs) ∙ magic_at_end (drop 8 xs) now m is ∙ sym so_far.front)
+    (take_cut limit (head ++ body) bytes body h (length (drop 8 xs) - 8) (fill_heads limit head body bytes h matched long so_far) (omega (arith, long, length-append head body))
     (one_there (drop 8 xs) now m is) (omega (arith, few, is, rest)) (omega (arith, total, high)))
 
-pub whole_taken : (limit : ℕ) (head body bytes after : List ℕ) (h : Header) (filled matched now : ℕ) → length head ≡ 44 → h.size ≤ length body → IsOpen limit head body h filled matched → Matches (take matched magic ++ bytes) now → now ≢ 8 → filled + length bytes ≡ h.size →
-    after ≡ put_at body filled bytes → Taken limit (head ++ take filled body) bytes (Whole h) after (take now magic)
-whole_taken limit head body bytes after h filled matched now long room so_far s other all put =
-    let xs : List ℕ = head ++ take filled body ++ bytes in
-    let m : Matches (drop 8 xs) now = fill_matches limit head body bytes h filled matched now long so_far s in
+pub whole_taken : (limit : ℕ) (head body bytes after : List ℕ) (h : Header) (matched now : ℕ) → length head ≡ 44 → IsOpen limit head body h matched → Matches (take matched magic ++ bytes) now → now ≢ 8 → length body + length bytes ≡ h.size →
+    after ≡ body ++ bytes → Taken limit (head ++ body) bytes (Whole h) after (take now magic)
+whole_taken limit head body bytes after h matched now long so_far s other all put =
+    let xs : List ℕ = head ++ body ++ bytes in
+    let m : Matches (drop 8 xs) now = fill_matches limit head body bytes h matched now long so_far s in
     let less : now < 8 = omega (arith, s.most, other) in
-    let total : length xs ≡ 44 + filled + length bytes = fill_length limit head body bytes h filled matched long room so_far in
+    let total : length xs ≡ 44 + length body + length bytes = fill_length head body bytes long in
     let small : length (start_of_magic (drop 8 xs)) < 8 = omega (arith, ap length m.start, length_of_matched now m.most) in
     let seven : 8 + (length (drop 8 xs) - 7) ≡ length xs - 7 = omega (arith, length-drop 8 xs, total) in
     let start : start_of_magic (drop (length xs - 7) xs) ≡ take now magic =
     ap (λ n. start_of_magic (drop n xs)) (sym seven) ∙ ap start_of_magic (sym (drop-drop (length (drop 8 xs) - 7) 8 xs)) ∙ start_in_last (drop 8 xs) small ∙ m.start in
-    let rest : drop 44 xs ≡ take filled body ++ bytes = ap (λ t. drop 44 t) (append_assoc head (take filled body) bytes) ∙ drop_at head (take filled body ++ bytes) 44 long in
-    let same : take h.size (drop 44 xs) ≡ take h.size after =
-    take_all h.size (drop 44 xs) (omega (arith, length-drop 44 xs, total, all)) ∙ rest ∙ sym (put_to_end body filled bytes h.size (omega (arith, room, all)) (sym all)) ∙ ap (λ t. take h.size t) (sym put) in
-    subst (λ (t : List ℕ). Taken limit (head ++ take filled body) bytes (Whole h) after t) start
-    (take_whole limit (head ++ take filled body) bytes after h (fill_heads limit head body bytes h filled matched long so_far) (omega (arith, long, length-append head (take filled body)))
-    (none_there (drop 8 xs) now m less) (omega (arith, total, all)) same (omega (arith, room, ap length put, length_put body filled bytes (omega (arith, room, all)))))
+    let rest : drop 44 xs ≡ after = ap (λ t. drop 44 t) (append_assoc head body bytes) ∙ drop_at head (body ++ bytes) 44 long ∙ sym put in
+    subst (λ (t : List ℕ). Taken limit (head ++ body) bytes (Whole h) after t) start
+    (take_whole limit (head ++ body) bytes after h (fill_heads limit head body bytes h matched long so_far) (omega (arith, long, length-append head body))
+    (none_there (drop 8 xs) now m less) (omega (arith, total, all)) (ap (λ t. take h.size t) rest) (omega (arith, ap length put, length-append body bytes, all)))
 
 -- where the bytes stand then
-filled_to : (head body bytes after : List ℕ) (filled count : ℕ) → filled + length bytes ≤ length body → count ≡ length bytes → after ≡ put_at body filled bytes → head ++ take (filled + count) after ≡ head ++ take filled body ++ bytes
-filled_to head body bytes after filled count room n put =
-    ap (λ t. head ++ take (filled + count) t) put ∙ ap (λ t. head ++ t) (put_to_end body filled bytes (filled + count) room (omega (arith, n))) ∙ sym (append_assoc head (take filled body) bytes)
+filled_to : (head body bytes after : List ℕ) → after ≡ body ++ bytes → head ++ after ≡ head ++ body ++ bytes
+filled_to head body bytes after put = ap (λ t. head ++ t) put ∙ sym (append_assoc head body bytes)
 
-pub more_taken : (limit : ℕ) (head body bytes after : List ℕ) (h : Header) (filled matched now count : ℕ) → length head ≡ 44 → h.size ≤ length body → IsOpen limit head body h filled matched → Matches (take matched magic ++ bytes) now → now ≢ 8 → filled + length bytes < h.size →
-    count ≡ length bytes → after ≡ put_at body filled bytes → Taken limit (head ++ take filled body) bytes More after (head ++ take (filled + count) after)
-more_taken limit head body bytes after h filled matched now count long room so_far s other few n put =
-    let xs : List ℕ = head ++ take filled body ++ bytes in
-    let m : Matches (drop 8 xs) now = fill_matches limit head body bytes h filled matched now long so_far s in
+pub more_taken : (limit : ℕ) (head body bytes after : List ℕ) (h : Header) (matched now : ℕ) → length head ≡ 44 → IsOpen limit head body h matched → Matches (take matched magic ++ bytes) now → now ≢ 8 → length body + length bytes < h.size →
+    after ≡ body ++ bytes → Taken limit (head ++ body) bytes More after (head ++ after)
+more_taken limit head body bytes after h matched now long so_far s other few put =
+    let xs : List ℕ = head ++ body ++ bytes in
+    let m : Matches (drop 8 xs) now = fill_matches limit head body bytes h matched now long so_far s in
     let less : now < 8 = omega (arith, s.most, other) in
-    let total : length xs ≡ 44 + filled + length bytes = fill_length limit head body bytes h filled matched long room so_far in
-    subst (λ (t : List ℕ). Taken limit (head ++ take filled body) bytes More after t) (sym (filled_to head body bytes after filled count (omega (arith, room)) n put))
-    (take_open limit (head ++ take filled body) bytes after h (fill_heads limit head body bytes h filled matched long so_far) (omega (arith, long, length-append head (take filled body)))
-    (none_there (drop 8 xs) now m less) (omega (arith, total)))
+    let total : length xs ≡ 44 + length body + length bytes = fill_length head body bytes long in
+    subst (λ (t : List ℕ). Taken limit (head ++ body) bytes More after t) (sym (filled_to head body bytes after put))
+    (take_open limit (head ++ body) bytes after h (fill_heads limit head body bytes h matched long so_far) (omega (arith, long, length-append head body))
+    (none_there (drop 8 xs) now m less) (omega (arith, total, few)))
 
-pub more_open : (limit : ℕ) (head body bytes after : List ℕ) (h : Header) (filled matched now count : ℕ) → length head ≡ 44 → h.size ≤ length body → IsOpen limit head body h filled matched → Matches (take matched magic ++ bytes) now → now ≢ 8 → filled + length bytes < h.size →
-    count ≡ length bytes → after ≡ put_at body filled bytes → IsOpen limit head after h (filled + count) now
-more_open limit head body bytes after h filled matched now count long room so_far s other few n put = record {
+pub more_open : (limit : ℕ) (head body bytes after : List ℕ) (h : Header) (matched now : ℕ) → length head ≡ 44 → IsOpen limit head body h matched → Matches (take matched magic ++ bytes) now → now ≢ 8 → length body + length bytes < h.size →
+    after ≡ body ++ bytes → IsOpen limit head after h now
+more_open limit head body bytes after h matched now long so_far s other few put = record {
   header = so_far.header;
   legal = so_far.legal;
   front = so_far.front;
   room = so_far.room;
-  part = omega arith;
+  part = omega (arith, ap length put, length-append body bytes, few);
   few = omega (arith, s.most, other);
-  matches = subst (λ (t : List ℕ). Matches (drop 8 t) now) (sym (filled_to head body bytes after filled count (omega (arith, room)) n put)) (fill_matches limit head body bytes h filled matched now long so_far s);
+  matches = subst (λ (t : List ℕ). Matches (drop 8 t) now) (sym (filled_to head body bytes after put)) (fill_matches limit head body bytes h matched now long so_far s);
 }

@@ -1,5 +1,5 @@
 -- How the kept bytes stand in a head and a body, and what it is to take bytes behind them.
-use Rattle.std.specs.Prelude.{◌≡◌, ℕ, ◌+◌, ◌<◌, ◌≤◌, List, [], ◌∷◌, ◌++◌, length, take, drop}
+use Rattle.std.specs.Prelude.{◌≡◌, ℕ, ◌+◌, ◌<◌, ◌≤◌, List, [], ◌∷◌, ◌++◌, length, take, drop, vec_capacity}
 use Rattle.std.specs.declared.option.Option.{Option}
 use Rattle.std.specs.declared.option.Option.TheVariants.{Some, None}
 use Rattle.vc_base.specs.declared.Stamp.{Stamp}
@@ -23,7 +23,7 @@ put_at out at bytes = take at out ++ (bytes ++ drop (at + length bytes) out)
 abbrev pub tail_of : List ℕ → List ℕ → Stage → List ℕ
 tail_of head body (Seeking matched) = take matched magic
 tail_of head body (Begun length) = take length head
-tail_of head body (Open h filled matched) = head ++ take filled body
+tail_of head body (Open h matched) = head ++ body
 
 -- a magic stands in front, and no whole header is there
 pub record IsBegun (head : List ℕ) (length : ℕ) : Type 0 where
@@ -32,20 +32,20 @@ pub record IsBegun (head : List ℕ) (length : ℕ) : Type 0 where
   pub front : take 8 head ≡ magic
 
 -- a legal header stands in front, and nothing of its frame's end
-pub record IsOpen (limit : ℕ) (head body : List ℕ) (h : Header) (filled matched : ℕ) : Type 0 where
+pub record IsOpen (limit : ℕ) (head body : List ℕ) (h : Header) (matched : ℕ) : Type 0 where
   pub header : header_from limit head ≡ Some h
   pub legal : IsLegal limit h
   pub front : take 8 head ≡ magic
   pub room : h.size ≤ limit
-  pub part : filled ≤ h.size
+  pub part : length body ≤ h.size
   pub few : matched < 8
-  pub matches : Matches (drop 8 (head ++ take filled body)) matched
+  pub matches : Matches (drop 8 (head ++ body)) matched
 
 -- head and body are as the stage says
 abbrev pub Stands : ℕ → List ℕ → List ℕ → Stage → Type 0
 Stands limit head body (Seeking matched) = matched < 8
 Stands limit head body (Begun length) = IsBegun head length
-Stands limit head body (Open h filled matched) = IsOpen limit head body h filled matched
+Stands limit head body (Open h matched) = IsOpen limit head body h matched
 
 -- the kept bytes
 abbrev pub kept_in : Collected → List ℕ
@@ -54,7 +54,7 @@ kept_in c = tail_of c.head c.body.items c.stage
 -- head and body have their room
 pub record HasRoom (c : Collected) : Type 0 where
   pub head : length c.head ≡ 44
-  pub body : length c.body.items ≡ c.limit
+  pub body : c.limit ≤ vec_capacity c.body
 
 -- there is room, and all is as the stage says
 pub record IsSound (c : Collected) : Type 0 where

@@ -1,6 +1,6 @@
 //! The bytes that are kept between two pieces, and what stands in them.
 
-ghost use Rattle.std.specs.Prelude.{◌≡◌, ◌<◌, ◌≤◌, ◌+◌, ℕ, List, [], ◌++◌, length, take, drop, nat_lt, if◌then◌else◌, IfOk};
+ghost use Rattle.std.specs.Prelude.{◌≡◌, ◌<◌, ◌≤◌, ◌+◌, ℕ, List, [], ◌++◌, length, take, drop, nat_lt, if◌then◌else◌, IfOk, vec_len, vec_capacity};
 ghost use Rattle.vc_defs.specs.Headers.{magic};
 ghost use Rattle.vc_defs.specs.Places.{start_of_magic};
 ghost use Rattle.vc_resync.specs.Seeking.{Sought};
@@ -18,24 +18,17 @@ use vc_defs::Header;
 #[derive(Clone, Copy)]
 pub(crate) enum Stage {
     /// So many of the magic's first bytes, 7 at most.
-    Seeking {
-        matched: usize,
-    },
+    Seeking { matched: usize },
     /// A magic and what stands behind it, in the first bytes of the head: 8 to 43 bytes.
-    Begun {
-        length: usize,
-    },
-    /// A legal header that was told, which is the whole head, and so many bytes of its frame's body. No magic stands
-    /// behind the header's own, but the first `matched` bytes of one stand at the end.
-    Open {
-        header: Header,
-        filled: usize,
-        matched: usize,
-    },
+    Begun { length: usize },
+    /// A legal header that was told, which is the whole head, and what is there of its frame's body, which is all of
+    /// `body`. No magic stands behind the header's own, but the first `matched` bytes of one stand at the end.
+    Open { header: Header, matched: usize },
 }
 
 /// The kept bytes, and the most bytes of a body. They stand where a header and its body do, so that no byte of a frame
-/// is moved again.
+/// is moved again. The body's memory is touched only where a byte of a frame is put. A whole frame's body stands until
+/// the next header is read.
 #[derive(Drop)]
 pub(crate) struct Collected {
     pub(crate) limit: u32,
@@ -52,22 +45,25 @@ fn put(out: &mut [u8], at: usize, bytes: &[u8])
     out[at..at + bytes.len()].copy_from_slice(bytes);
 }
 
-/// Puts bytes at a place of a body.
-fn put_in(body: &mut Vec<u8>, at: usize, bytes: &[u8])
-    requires { at + length bytes.now ≤ length body.old.items }
-    ensures { body.new.items ≡ put_at body.old.items at bytes.now }
+/// Puts bytes behind those of a body that has room for them.
+fn append(body: &mut Vec<u8>, bytes: &[u8])
+    requires { vec_len body.old + length bytes.now ≤ vec_capacity body.old }
+    ensures items { body.new.items ≡ body.old.items ++ bytes.now }
+    ensures room { vec_capacity body.old ≤ vec_capacity body.new }
 {
-    put(body, at, bytes);
+    let Ok(()) = body.extend_from_slice(bytes) else {
+        unreachable!()
+    };
 }
 
 impl Collected {
-    /// Nothing is kept. The body has room for `limit` bytes.
+    /// Nothing is kept. The body is empty, with room for `limit` bytes.
     pub(crate) fn make(alloc: Global, limit: u32) -> Result<Collected, NoMemory>
         ensures limit { IfOk result (λ c. c.limit ≡ limit) }
         ensures nothing { IfOk result (λ c. kept_in c ≡ []) }
         ensures sound { IfOk result (λ c. IsSound c) }
     {
-        let body = vec![in alloc; 0; limit as usize]?;
+        let body = Vec::with_capacity(alloc, limit as usize)?;
         Ok(Collected {
             limit,
             head: [0; 44],
@@ -94,7 +90,7 @@ impl Collected {
         match &self.stage {
             Stage::Seeking { matched } => *matched,
             Stage::Begun { length } => *length,
-            Stage::Open { filled, .. } => 44 + *filled,
+            Stage::Open { .. } => 44 + self.body.len(),
         }
     }
 
@@ -113,11 +109,7 @@ impl Collected {
         match self.stage {
             Stage::Seeking { matched } => self.look_on(matched, bytes),
             Stage::Begun { length } => self.go_on(length, bytes),
-            Stage::Open {
-                header,
-                filled,
-                matched,
-            } => self.fill(header, filled, matched, bytes),
+            Stage::Open { header, matched } => self.fill(header, matched, bytes),
         }
     }
 
@@ -179,11 +171,8 @@ impl Collected {
         let (count, matched) = seek(0, &self.head[8..]);
         match vc_header::read(&self.head, self.limit) {
             Ok(header) => {
-                self.stage = Stage::Open {
-                    header,
-                    filled: 0,
-                    matched,
-                };
+                self.body.clear();
+                self.stage = Stage::Open { header, matched };
                 Found::Head(header)
             },
             Err(_) => {
@@ -213,39 +202,29 @@ impl Collected {
     }
 
     /// Takes the bytes of a frame, up to a magic in it or to its end.
-    fn fill(
-        &mut self,
-        header: Header,
-        filled: usize,
-        matched: usize,
-        bytes: &[u8],
-    ) -> (usize, Found)
+    fn fill(&mut self, header: Header, matched: usize, bytes: &[u8]) -> (usize, Found)
         requires room { HasRoom self.old }
-        requires open { IsOpen self.old.limit self.old.head self.old.body.items header filled matched }
+        requires open { IsOpen self.old.limit self.old.head self.old.body.items header matched }
         ensures limit { self.new.limit ≡ self.old.limit }
         ensures sound { IsSound self.new }
         ensures inside { result.0 ≤ length bytes.now }
-        ensures grows { Grows (length (self.old.head ++ take filled self.old.body.items)) result.0 (length (kept_in self.new)) }
-        ensures taken { Taken self.old.limit (self.old.head ++ take filled self.old.body.items) (take result.0 bytes.now) result.1 self.new.body.items (kept_in self.new) }
+        ensures grows { Grows (length (self.old.head ++ self.old.body.items)) result.0 (length (kept_in self.new)) }
+        ensures taken { Taken self.old.limit (self.old.head ++ self.old.body.items) (take result.0 bytes.now) result.1 self.new.body.items (kept_in self.new) }
         ensures legal { IsLegalAnswer self.old.limit result.1 }
         ensures moves { result.1 ≡ More → 0 < length bytes.now → 0 < result.0 }
     {
-        let room = bytes.len().min(header.size as usize - filled);
+        let room = bytes.len().min(header.size as usize - self.body.len());
         let (count, matched) = seek(matched, &bytes[..room]);
         if matched == 8 {
             self.stage = Stage::Begun { length: 8 };
             return (count, Found::Cut(header));
         }
-        put_in(&mut self.body, filled, &bytes[..count]);
-        if filled + count == header.size as usize {
+        append(&mut self.body, &bytes[..count]);
+        if self.body.len() == header.size as usize {
             self.stage = Stage::Seeking { matched };
             return (count, Found::Whole(header));
         }
-        self.stage = Stage::Open {
-            header,
-            filled: filled + count,
-            matched,
-        };
+        self.stage = Stage::Open { header, matched };
         (count, Found::More)
     }
 }

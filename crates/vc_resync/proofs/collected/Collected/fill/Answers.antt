@@ -1,8 +1,7 @@
-use Rattle.std.proofs.Common.{◌≡◌, ◌∙◌, ◌++◌, ◌+◌, ◌<◌, ◌≤◌, sym, ap, ℕ, List, subst, length, take, arith}
+use Rattle.std.proofs.Common.{◌≡◌, ◌∙◌, ◌++◌, ◌<◌, ◌≤◌, ap, ℕ, List, subst, length, take, arith, length-append}
 use Rattle.std.proofs.lemmas.List.{length-take-le, take-take}
 use Rattle.vc_defs.specs.Headers.{magic}
 use Rattle.vc_resync.specs.Seeking.{Matches, Sought}
-use Rattle.vc_resync.proofs.Putting.{length_put}
 use Rattle.vc_resync.proofs.Filling.{cut_taken, whole_taken, more_taken, more_open}
 use Rattle.vc_resync.proofs.collected.Collected.fill.Goals as goal
 
@@ -27,15 +26,16 @@ pub returns-then-matched-eq8-clause-taken : goal.returns-then-matched-eq8-clause
 returns-then-matched-eq8-clause-taken c =
     let s = looked c.args.matched c.args.bytes.now c.min-room.result c.seek-count.result.0 c.seek-count.result.1 (omega arith) c.seek-count.ensures in
     let here = c.requires.open in
-    cut_taken c.args.self.now.limit c.args.self.now.head c.args.self.now.body.items (take c.seek-count.result.0 c.args.bytes.now) c.args.header c.args.filled c.args.matched c.seek-count.result.1
-    c.requires.room.head (omega (arith, here.room, c.requires.room.body)) here s.matches c.if-matched-eq8.true (omega (arith, s.long, s.inside, here.part))
+    cut_taken c.args.self.now.limit c.args.self.now.head c.args.self.now.body.items (take c.seek-count.result.0 c.args.bytes.now) c.args.header c.args.matched c.seek-count.result.1
+    c.requires.room.head here s.matches c.if-matched-eq8.true (omega (arith, s.long, s.inside, here.part))
 
-pub returns-then-filled-count-clause-taken : goal.returns-then-filled-count-clause-taken
-returns-then-filled-count-clause-taken c =
+pub returns-then-len-header-clause-taken : goal.returns-then-len-header-clause-taken
+returns-then-len-header-clause-taken c =
     let s = looked c.args.matched c.args.bytes.now c.min-room.result c.seek-count.result.0 c.seek-count.result.1 (omega arith) c.seek-count.ensures in
-    let here = c.requires.open in
-    whole_taken c.args.self.now.limit c.args.self.now.head c.args.self.now.body.items (take c.seek-count.result.0 c.args.bytes.now) c.put_in.new.body.items c.args.header c.args.filled c.args.matched c.seek-count.result.1
-    c.requires.room.head (omega (arith, here.room, c.requires.room.body)) here s.matches c.if-matched-eq8.false (omega (arith, s.long)) c.put_in.ensures
+    let body = c.args.self.now.body.items in
+    let bytes = take c.seek-count.result.0 c.args.bytes.now in
+    whole_taken c.args.self.now.limit c.args.self.now.head body bytes c.append.new.body.items c.args.header c.args.matched c.seek-count.result.1
+    c.requires.room.head c.requires.open s.matches c.if-matched-eq8.false (omega (arith, length-append body bytes, ap length c.append.ensures.items)) c.append.ensures.items
 
 pub returns-clause-sound : goal.returns-clause-sound
 returns-clause-sound c =
@@ -43,16 +43,17 @@ returns-clause-sound c =
     let here = c.requires.open in
     let body = c.args.self.now.body.items in
     let bytes = take c.seek-count.result.0 c.args.bytes.now in
-    let inside : c.args.filled + length bytes ≤ length body = omega (arith, s.long, s.inside, here.part, here.room, c.requires.room.body) in
     record {
-      room = record { head = c.requires.room.head; body = ap length c.put_in.ensures ∙ length_put body c.args.filled bytes inside ∙ c.requires.room.body };
-      stands = more_open c.args.self.now.limit c.args.self.now.head body bytes c.put_in.new.body.items c.args.header c.args.filled c.args.matched c.seek-count.result.1 c.seek-count.result.0
-          c.requires.room.head (omega (arith, here.room, c.requires.room.body)) here s.matches c.if-matched-eq8.false (omega (arith, s.long, s.inside, here.part)) (sym s.long) c.put_in.ensures;
+      room = record { head = c.requires.room.head; body = omega (arith, c.requires.room.body, c.append.ensures.room) };
+      stands = more_open c.args.self.now.limit c.args.self.now.head body bytes c.append.new.body.items c.args.header c.args.matched c.seek-count.result.1
+          c.requires.room.head here s.matches c.if-matched-eq8.false (omega (arith, s.long, s.inside, here.part, length-append body bytes, ap length c.append.ensures.items)) c.append.ensures.items;
     }
 
 pub returns-clause-taken : goal.returns-clause-taken
 returns-clause-taken c =
     let s = looked c.args.matched c.args.bytes.now c.min-room.result c.seek-count.result.0 c.seek-count.result.1 (omega arith) c.seek-count.ensures in
     let here = c.requires.open in
-    more_taken c.args.self.now.limit c.args.self.now.head c.args.self.now.body.items (take c.seek-count.result.0 c.args.bytes.now) c.put_in.new.body.items c.args.header c.args.filled c.args.matched c.seek-count.result.1 c.seek-count.result.0
-    c.requires.room.head (omega (arith, here.room, c.requires.room.body)) here s.matches c.if-matched-eq8.false (omega (arith, s.long, s.inside, here.part)) (sym s.long) c.put_in.ensures
+    let body = c.args.self.now.body.items in
+    let bytes = take c.seek-count.result.0 c.args.bytes.now in
+    more_taken c.args.self.now.limit c.args.self.now.head body bytes c.append.new.body.items c.args.header c.args.matched c.seek-count.result.1
+    c.requires.room.head here s.matches c.if-matched-eq8.false (omega (arith, s.long, s.inside, here.part, length-append body bytes, ap length c.append.ensures.items)) c.append.ensures.items

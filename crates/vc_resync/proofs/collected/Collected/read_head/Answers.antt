@@ -15,13 +15,13 @@ returns-in-Ok-clause-sound c =
     let head = c.args.self.now.head in
     let sought = subst (λ (t : List ℕ). Sought 0 t c.seek-count.result.0 c.seek-count.result.1) (take_all 36 (drop 8 head) (omega (arith, c.requires.room.head, length-drop 8 head))) c.seek-count.ensures in
     record {
-      room = record { head = c.requires.room.head; body = c.requires.room.body };
-      stands = head_open c.args.self.now.limit head c.args.self.now.body.items c.in-Ok.header c.seek-count.result.0 c.seek-count.result.1 c.requires.room.head c.requires.front c.in-Ok.ensures.header (c.in-Ok.ensures.legal, c.in-Ok.ensures.writable) sought;
+      room = record { head = c.requires.room.head; body = omega (arith, c.requires.room.body, c.clear.ensures.capacity) };
+      stands = head_open c.args.self.now.limit head c.clear.new.self.items c.in-Ok.header c.seek-count.result.0 c.seek-count.result.1 c.clear.ensures.items c.requires.room.head c.requires.front c.in-Ok.ensures.header (c.in-Ok.ensures.legal, c.in-Ok.ensures.writable) sought;
     }
 
 pub returns-in-Ok-clause-taken : goal.returns-in-Ok-clause-taken
 returns-in-Ok-clause-taken c tail bytes all some few =
-    head_taken c.args.self.now.limit c.args.self.now.head c.args.self.now.body.items tail bytes c.in-Ok.header c.requires.room.head c.requires.front c.in-Ok.ensures.header all some few
+    head_taken c.args.self.now.limit c.args.self.now.head c.clear.new.self.items tail bytes c.in-Ok.header c.clear.ensures.items c.requires.room.head c.requires.front c.in-Ok.ensures.header all some few
 
 pub returns-in-Err-clause-taken : goal.returns-in-Err-clause-taken
 returns-in-Err-clause-taken c tail bytes all some few =
