@@ -1,9 +1,14 @@
--- Counts of faults and runs. They never fall, and one that is kept in 64 bits stands still at its end.
-use Rattle.std.specs.Prelude.{◌≡◌, ◌⊎◌, ℕ, ◌+◌, ◌<◌, ◌≤◌, Result, OnErr}
+-- Counts of faults and runs, by which it is told whether something outside failed (docs/PROOFS.md, "The program").
+-- They never fall, and one that is kept in 64 bits stands still at its end.
+use Rattle.std.specs.Prelude.{◌≡◌, ◌⊎◌, ℕ, ◌+◌, ◌<◌, ◌≤◌, min, Result, OnErr}
 
 -- the greatest number of 64 bits
 abbrev pub top_count : ℕ
 top_count = 0xffff_ffff_ffff_ffff
+
+-- the count after one more
+abbrev pub next_count : ℕ → ℕ
+next_count n = min (n + 1) top_count
 
 -- the count rose by one, or stands at its end
 abbrev pub OneMore : ℕ → ℕ → Type 0

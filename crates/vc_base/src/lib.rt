@@ -192,8 +192,8 @@ pub enum Reply {
         length: u32,
         flags: u32,
     },
-    /// A buffer that was taken from done: how many of its bytes are used, its flags, its sequence
-    /// number on the queue and its stamp.
+    /// A buffer that was taken from done: how many of its bytes are used, its own flags, without DONE, its
+    /// sequence number on the queue and its stamp.
     Taken {
         index: u32,
         used: u32,
@@ -201,7 +201,8 @@ pub enum Reply {
         seq: u64,
         stamp: Stamp,
     },
-    /// An event, its number, what changed (1: the resolution), and how many events are left.
+    /// An event, its number, what changed (1 with a new resolution, 0 with the end of a stream), and how many
+    /// events are left. Numbers count the events that were raised in the context, from 0.
     Happened {
         event: u32,
         seq: u64,

@@ -20,8 +20,9 @@ use vc_queue::hold::Hold;
 /// The device: its slots, the list of those that wait for a worker, and which slot's job each worker has.
 /// Contracts see it as the state of the device, without the data that the running jobs have.
 ///
-/// Each call but a look is one step; fewer than 2^62 steps are made. A call that answers `Blocked` and a
-/// claim that finds nothing are none.
+/// Each call of a slot that is answered otherwise than by `Blocked`, each claim that gives a job, each finish
+/// and each shut is one step; `count`, `is_shut` and `refusal` are none. All that count steps have the
+/// condition that fewer than 2^62 were made.
 #[derive(Drop)]
 pub struct Core {
     alloc: Global,
@@ -67,8 +68,10 @@ fn steps_of(reply: &Reply) -> u64
 }
 
 impl Core {
-    /// A device of 1 to 1,024 closed slots and 1 to 64 workers without a job. NoMemory says that memory for
-    /// it was refused.
+    /// A device of 1 to 1,024 closed slots and 1 to 64 workers without a job.
+    ///
+    /// # Errors
+    /// `NoMemory` where memory for it was refused.
     pub fn make(alloc: Global, slots: u32, workers: u32) -> Result<Core, NoMemory>
         requires slots { (0 < slots) × (slots ≤ 1024) }
         requires workers { (0 < workers) × (workers ≤ 64) }
@@ -87,9 +90,9 @@ impl Core {
         })
     }
 
-    /// Makes a call on a slot, with the payloads of the slot's user. docs/DEVICE.md has the table of calls:
-    /// the tests of a call are made in order, a refusal and `Blocked` change nothing, and ENOMEM comes after
-    /// every other test.
+    /// Makes a call on a slot, counted from 0, with the payloads of the slot's user, which fit the slot's
+    /// queues. docs/DEVICE.md has the table of calls: the tests of a call are made in order, a refusal and
+    /// `Blocked` change nothing, and ENOMEM comes after every other test.
     pub fn call(&mut self, slot: u32, call: &Call, hold: &mut Hold) -> Reply
         requires slot { slot < length self.old.slots }
         requires fits { FitsSlot (slot_of self.old slot) hold.old }
@@ -110,7 +113,8 @@ impl Core {
         reply
     }
 
-    /// Gives the worker the job of the slot that waits longest, or none where no slot waits.
+    /// Gives the worker, which has no job, the job of the slot that waits longest, or none where no slot
+    /// waits.
     pub fn claim(&mut self, worker: u32) -> Option<Job>
         requires worker { worker < length self.old.workers }
         requires free { job_of self.old worker ≡ None }
@@ -131,7 +135,7 @@ impl Core {
         Some(job)
     }
 
-    /// Takes the job of a worker back, run or given up.
+    /// Takes the job of a worker back, run or given up. It is the one that the worker has.
     pub fn finish(&mut self, worker: u32, finished: Finished)
         requires worker { worker < length self.old.workers }
         requires job { IsOfWorker self.old worker finished }
@@ -160,7 +164,7 @@ impl Core {
         self.steps
     }
 
-    /// Marks the device as shut; all else stays.
+    /// Marks the device as shut. Of all else only the count of steps rises.
     pub fn shut(&mut self)
         requires counts { self.old.steps < 2 ^ 62 }
         ensures { self.new ≡ (core_shut self.old).device }

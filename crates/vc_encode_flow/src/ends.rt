@@ -7,7 +7,7 @@ ghost use Rattle.std.specs.Prelude.{◌≡◌};
 pub enum FlowEnd {
     /// The input was read to its end, and all of its output was written.
     Whole,
-    /// The input is not a coded stream without damage. The good pictures were written.
+    /// The coded input has a damaged frame or a byte in no frame. The good pictures were written.
     Damaged,
     /// The input ends inside a raw picture. The frames of the whole pictures were written.
     ShortRaw,

@@ -96,7 +96,7 @@ fn raw_or_first(layout: Layout, fourcc: Fourcc) -> Fourcc
 }
 
 /// The bytes of a raw picture of a layout.
-fn raw_bytes(layout: Layout, width: u32, height: u32) -> u32
+fn raw_size_of(layout: Layout, width: u32, height: u32) -> u32
     requires { IsSize width height }
     ensures { result ≡ raw_size layout width height }
 {
@@ -117,7 +117,7 @@ pub fn raw_size(fourcc: Fourcc, width: u32, height: u32) -> Option<u32>
     ensures { result ≡ size_if_raw fourcc width height }
 {
     if is_raw(fourcc) {
-        Some(raw_bytes(layout_of(fourcc), width, height))
+        Some(raw_size_of(layout_of(fourcc), width, height))
     } else {
         None
     }
@@ -208,7 +208,7 @@ fn raw_format(fourcc: Fourcc, width: u32, height: u32) -> Format
         fourcc,
         width,
         height,
-        size: raw_bytes(layout_of(fourcc), width, height),
+        size: raw_size_of(layout_of(fourcc), width, height),
     }
 }
 

@@ -1,6 +1,5 @@
 -- What a source and a sink in memory hold.
-use Rattle.std.specs.Prelude.{ℕ, ◌+◌, ◌<◌, ◌≤◌, ◌⊎◌, min, List, length, Contains}
-use Rattle.vc_base.specs.Counts.{top_count}
+use Rattle.std.specs.Prelude.{ℕ, ◌<◌, ◌≤◌, ◌⊎◌, List, length, Contains}
 
 -- A source in memory: the bytes to come, the most that a call gives, the numbers of the calls that fail, and how
 -- many calls and failures there were.
@@ -20,10 +19,6 @@ pub record Store : Type 0 where
   pub fails : List ℕ
   pub calls : ℕ
   pub faults : ℕ
-
--- a count in 64 bits after one more, which stops at its end
-abbrev pub next_count : ℕ → ℕ
-next_count n = min (n + 1) top_count
 
 -- a write of so many bytes is refused: its number is listed, or there are bytes and no room
 abbrev pub IsRefused : Store → ℕ → Type 0

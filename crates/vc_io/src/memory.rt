@@ -1,8 +1,8 @@
 ghost use Rattle.std.specs.Prelude.{◌≡◌, ◌↔◌, ◌<◌, ◌-◌, [], length, min, Some, IfOk, OnOk, IsErr, Contains};
 ghost use Rattle.std.specs.Io.{ReadsAtMost, WritesAtMost};
 ghost use Rattle.std.specs.Io.KnownBytes.{ReadConsumes, WriteAppends};
-ghost use Rattle.vc_base.specs.Counts.{HasCause};
-ghost use Rattle.vc_io.specs.Memory.{next_count, IsRefused};
+ghost use Rattle.vc_base.specs.Counts.{HasCause, next_count};
+ghost use Rattle.vc_io.specs.Memory.{IsRefused};
 
 use crate::{ReadFailed, Sink, Source, WriteFailed};
 use std::alloc::Global;
@@ -33,8 +33,8 @@ impl Model for MemSource {
 }
 
 impl MemSource {
-    /// A source that gives these bytes, at most `step` in a call. It fails at the calls of `read` whose
-    /// numbers, counted from 0, stand in `fails`.
+    /// A source that gives these bytes, at most `step` in a call, which is 1 or more. It fails at the
+    /// calls of `read` whose numbers, counted from 0, stand in `fails`.
     pub fn make(bytes: Vec<u8>, step: usize, fails: Vec<u64>) -> MemSource
         requires { 0 < step }
         ensures left { result.left ≡ bytes.items }
@@ -109,7 +109,11 @@ impl Model for MemSink {
 
 impl MemSink {
     /// A sink with room for so many bytes, taken now: writing takes no memory. A call takes at most
-    /// `step` bytes. It fails at the calls of `write` whose numbers, counted from 0, stand in `fails`.
+    /// `step` bytes, which is 1 or more. It fails at the calls of `write` whose numbers, counted from 0,
+    /// stand in `fails`, and where bytes meet a full room.
+    ///
+    /// # Errors
+    /// `NoMemory` where no memory is found for the room.
     pub fn make(
         alloc: Global,
         room: usize,

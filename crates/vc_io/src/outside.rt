@@ -6,12 +6,12 @@ ghost use Rattle.vc_io.specs.Written.{AppendsFront};
 
 use thiserror::Error;
 
-/// The source failed: its count of faults has risen.
+/// The source failed: its count of faults has risen, or stands at 2^64 - 1.
 #[derive(Clone, Copy, Debug, Error)]
 #[error("read fault")]
 pub struct ReadFailed;
 
-/// The sink failed: its count of faults has risen.
+/// The sink failed: its count of faults has risen, or stands at 2^64 - 1.
 #[derive(Clone, Copy, Debug, Error)]
 #[error("write fault")]
 pub struct WriteFailed;
@@ -24,8 +24,8 @@ pub trait Source {
     /// How often it has failed. It never falls.
     ghost faults: { Self → ℕ };
 
-    /// Puts the next bytes at the front of `buf`, and tells how many. None for a buffer that isn't
-    /// empty is the end. After a failure nothing was taken.
+    /// Puts the next bytes at the front of `buf`, and tells how many. 0 for a buffer that isn't empty
+    /// is the end of the input. After a failure nothing was taken.
     fn read(&mut self, buf: &mut [u8]) -> Result<usize, ReadFailed>
         ensures bound { ReadsAtMost result buf.new }
         ensures bytes { ReadConsumes (left self.old) (left self.new) result buf.new }

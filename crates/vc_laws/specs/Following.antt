@@ -1,4 +1,5 @@
--- What the runs of a segment gave is what the sequential codec gives for what they consumed.
+-- What the runs of a segment gave is what the sequential codec gives for what they consumed (docs/FORMAT.md, "The
+-- sequential decoder" and "The sequential encoder").
 use Rattle.std.specs.Prelude.{ℕ, ◌≡◌, ◌⊎◌, ◌+◌, ◌==◌, Bool, true, false, not, get_or, map, length, Some, None, List, [], ◌∷◌}
 use mathlib.Core.List.{IsPrefix}
 use Rattle.std.specs.List.{filter, All}

@@ -50,9 +50,10 @@ pub struct Lent {
 }
 
 /// One queue of a context, with 0 to 32 buffers. Each buffer is in one place: with the user, ready, in
-/// the job or done. The buffers lie in an array of cells, and four lists over the cells tell where each
-/// is. The rules are those of the chapter "Input/Output" of the Linux userspace API documentation, as
-/// far as docs/DEVICE.md does not say otherwise.
+/// the job or done. Each buffer has a cell, and four lists over the cells tell where each is. Cells and
+/// places for payloads take memory for the buffers that the queue has, and none before there are any. The
+/// rules are those of the chapter "Input/Output" of the Linux userspace API documentation, as far as
+/// docs/DEVICE.md does not say otherwise.
 #[derive(Drop)]
 pub struct Queue {
     side: Side,
@@ -697,8 +698,8 @@ impl Queue {
         self.next_seq += 1;
     }
 
-    /// VIDIOC_DQBUF: moves the front of done to the user. `ended` says that the user took the LAST buffer
-    /// of CAPTURE, and no further one follows.
+    /// VIDIOC_DQBUF: moves the front of done to the user, and answers its own flags, without DONE. `ended`
+    /// says that the user took the LAST buffer of CAPTURE, and no further one follows.
     ///
     /// # Errors
     /// EINVAL where the queue does not stream, else EPIPE where `ended`, else EAGAIN where no buffer is

@@ -1,4 +1,4 @@
--- What the words behind a verb mean.
+-- What the words behind a verb mean (docs/FORMAT.md, "Scripts").
 use Rattle.std.specs.Prelude.{ℕ, ◌-◌, ◌^◌, List, [], ◌∷◌, Option, Some, None, option_map, true, false}
 use Rattle.vc_base.specs.declared.Side.{Side}
 use Rattle.vc_base.specs.declared.Kind.{Kind}

@@ -1,4 +1,4 @@
--- What a word means as one field of a line.
+-- What a word means as one field of a line (docs/FORMAT.md, "Scripts").
 use Rattle.std.specs.Prelude.{ℕ, Bool, ◌&&◌, nat_le, if◌then◌else◌, List, length, codes, bytes_eq, Option, Some, None}
 use Rattle.std.specs.List.{list_all}
 use Rattle.std.specs.Char.{is_ascii_digit}

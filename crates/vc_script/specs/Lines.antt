@@ -1,4 +1,4 @@
--- What a line asks for.
+-- What a line asks for (docs/FORMAT.md, "Scripts").
 use Rattle.std.specs.Prelude.{ℕ, ◌^◌, ◌-◌, ◌==◌, nat_lt, if◌then◌else◌, Bool, List, [], ◌∷◌, length, slice_index, bytes_eq, codes, Option, Some, None, option_map}
 use Rattle.vc_base.specs.declared.Side.{Side}
 use Rattle.vc_base.specs.declared.Side.TheVariants.{Out, Cap}

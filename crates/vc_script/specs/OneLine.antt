@@ -1,4 +1,5 @@
--- What is printed is one line each time, and the line of a slot begins with its number and a space.
+-- What is printed is one line each time, and the line of a slot begins with its number and a space
+-- (docs/FORMAT.md, "Scripts").
 use Rattle.std.specs.Prelude.{ℕ, ◌≡◌, ◌<◌, ◌^◌, ◌&&◌, ◌==◌, Bool, true, not, List, [], ◌∷◌, ◌++◌, decimal}
 use Rattle.std.specs.List.{list_all}
 use Rattle.vc_base.specs.declared.Call.{Call}

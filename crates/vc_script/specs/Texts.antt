@@ -1,4 +1,4 @@
--- What is printed: the lines that answer the calls, claims and finishes of a script.
+-- What is printed: the lines that answer the calls, claims and finishes of a script (docs/FORMAT.md, "Scripts").
 use Rattle.std.specs.Prelude.{ℕ, ◌≤◌, nat_lt, if◌then◌else◌, Bool, true, false, List, [], ◌∷◌, ◌++◌, length, take, codes, decimal, ⊤}
 use Rattle.std.specs.List.{list_all}
 use Rattle.std.specs.Fmt.{digits}

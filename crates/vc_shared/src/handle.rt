@@ -91,7 +91,7 @@ impl<'a, R> Handle<'a, R> {
         self.seat.known();
     }
 
-    /// The payload of a buffer, where the user holds it. It takes no lock.
+    /// The payload of a buffer, and None exactly where the user does not hold it. It takes no lock.
     pub fn payload(&self, side: Side, index: u32) -> Option<&[u8]>
         ensures { option_map (λ s. s.now) result ≡ held_payload self.now.hold side index }
     {
@@ -161,7 +161,8 @@ impl<'a, R: Wait + Sync> Handle<'a, R> {
     ghost use Rattle.vc_shared.specs.Handles.{slot_events, IsHandle};
 
     /// Makes a call on the slot, in a turn of its own. An answered call is one entry of the history. Where the answer is
-    /// Blocked nothing is noted and nothing changes. It waits for its turn, and may wait for ever.
+    /// Blocked nothing is noted, and neither the slot nor a payload changes; the handle may have seen more of the
+    /// history. It waits for its turn, and may wait for ever.
     pub fn call(&mut self, call: &Call) -> Reply
         ensures follows { HandleFollows self.old self.new }
         ensures solo { IsCallOn (slot_events self.old) self.old.hold call.now result (slot_events self.new) self.new.hold }
@@ -172,7 +173,7 @@ impl<'a, R: Wait + Sync> Handle<'a, R> {
         self.make(call)
     }
 
-    /// Marks the device as shut, which is one entry of the history. It waits for its turn.
+    /// Marks the device as shut, which is one entry of the history. It waits for its turn, and may wait for ever.
     pub fn shut(&mut self)
         ensures follows { HandleFollows self.old self.new }
         ensures shut { ShutsDevice self.old self.new }

@@ -70,6 +70,9 @@ fn deal(
 impl Shared {
     /// A device of 1 to 1,024 slots and 1 to 64 workers, all slots closed, with the seats of both. The seat at place k
     /// of the first list is the one seat of slot k, and that at place w of the second list is the one of worker w.
+    ///
+    /// # Errors
+    /// `NoMemory` where no memory is found.
     pub fn make(
         alloc: Global,
         slots: u32,
@@ -96,7 +99,7 @@ impl Shared {
 
     /// Gives the core back, where all seats of the device come back in the order in which they were made. The core
     /// stands for the one history, which all that any seat has seen begins, and each entry of it is one entry of one
-    /// seat.
+    /// seat. The payloads that users hold are dropped.
     pub fn close(self, handles: Vec<HandleSeat>, workers: Vec<JobSeat>) -> Core
         requires some { 0 < vec_len handles }
         requires handles { AreHandlesOf (device_at self (vec_len handles) (vec_len workers)) handles.items }

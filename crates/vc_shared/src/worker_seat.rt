@@ -136,7 +136,8 @@ impl<'a, R: Wait + Sync> WorkerSeat<'a, R> {
         self.take_job()
     }
 
-    /// Brings back the job of the worker, run or given up: it is one entry of the history. It waits for its turn.
+    /// Brings back the job of the worker, run or given up: it is one entry of the history. It waits for its turn, and
+    /// may wait for ever.
     pub fn finish(&mut self, finished: Finished)
         requires { IsOfItsJob self.old finished }
         ensures follows { WorkerFollows self.old self.new }

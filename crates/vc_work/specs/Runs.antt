@@ -11,7 +11,7 @@ use Rattle.vc_defs.specs.Encoder.{RunRates, EncoderState, EncodedFrame, encode, 
 use Rattle.vc_defs.specs.Laws.{IsRawFormat, AreRates}
 use Rattle.vc_resync.specs.Assembling.{AssemblyState}
 use Rattle.vc_work.specs.References.{CodecReference}
-use Rattle.vc_work.specs.Streams.{decoder_of, picture_of, kept_of, IsInStep, HasStream}
+use Rattle.vc_work.specs.Streams.{decoder_of, picture_of, kept_of, HasStream}
 use Rattle.vc_work.specs.declared.work.Sort.{Sort}
 use Rattle.vc_work.specs.declared.work.Sort.TheVariants.{Copy, Encode, Probe, Decode}
 use Rattle.vc_work.specs.declared.work.Rates.{Rates}

@@ -26,7 +26,8 @@ pub enum Outcome {
     Spent,
 }
 
-/// The engine gave up. Nothing is known of the bytes of the work then.
+/// The engine gave up. Nothing is known of the bytes of the work then, but each payload and area keeps its
+/// length.
 #[derive(Clone, Copy, Debug, PartialEq, Eq)]
 pub struct EngineFault;
 
@@ -52,7 +53,7 @@ pub trait Engine: Drop {
     fn runs(&self) -> u64
         ensures { result ≡ run_count self.now };
 
-    /// How many runs failed.
+    /// The count of faults, which each run that fails raises.
     fn faults(&self) -> u64
         ensures { result ≡ fault_count self.now };
 }

@@ -50,6 +50,9 @@ fn copy_front(dest: &mut [u8], source: &[u8])
 
 impl Reference {
     /// A reference without a picture, with room for raw pictures of up to so many bytes.
+    ///
+    /// # Errors
+    /// `NoMemory` where no memory is found.
     pub fn make(alloc: Global, size: u32) -> Result<Reference, NoMemory>
         ensures { IfOk result (λ r. r ≡ record { size = size; state = fresh_encoder }) }
     {

@@ -41,7 +41,7 @@ pub struct Rates {
 /// `reference` is what the codec keeps from frame to frame, which encode runs and decode runs need; `assembly` is
 /// what a decoder keeps of the bytes of its stream, which probes and decode runs need, and `geometry` the
 /// decoder's geometry, once it is known. `format` is the format that counts in the run, that of OUTPUT in an
-/// encode run and that of CAPTURE in every other one; `limit` is the size of OUTPUT's buffers in bytes, which
+/// encode run and that of CAPTURE in every other one; `limit` is the size of OUTPUT's format in bytes, which
 /// is a decoder's bound on the body of a frame.
 #[derive(Drop)]
 pub struct Work {
