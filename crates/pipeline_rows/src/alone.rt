@@ -1,8 +1,8 @@
 //! What an encoder makes of the generator's pictures, found by coding one after another, without a device.
 
 ghost use Rattle.std.specs.Prelude.{◌≡◌, ◌<◌, length, vec_len, IfOk};
-ghost use Rattle.vc_defs.specs.Raw.{yu12};
-ghost use Rattle.vc_work.specs.Runs.{HasGeometry, format_geometry};
+ghost use Rattle.vc_defs.specs.Raw.{yu12, geometry_of};
+ghost use Rattle.vc_work.specs.Runs.{HasGeometry};
 
 use std::alloc::Global;
 use std::test::Fail;
@@ -56,9 +56,9 @@ fn code_next(
     requires picture { length picture.old ≡ 152064 }
     requires frame { length frame.old ≡ 152108 }
     requires size { reference.old.size ≡ 152064 }
-    requires same { HasGeometry (format_geometry (record { fourcc = yu12; width = 352; height = 288; size = 152064 })) reference.old.state.reference }
+    requires same { HasGeometry (geometry_of (record { fourcc = yu12; width = 352; height = 288; size = 152064 })) reference.old.state.reference }
     ensures size { reference.new.size ≡ 152064 }
-    ensures same { HasGeometry (format_geometry (record { fourcc = yu12; width = 352; height = 288; size = 152064 })) reference.new.state.reference }
+    ensures same { HasGeometry (geometry_of (record { fourcc = yu12; width = 352; height = 288; size = 152064 })) reference.new.state.reference }
 {
     fill(picture, &FORMAT, number, 0);
     let (length, _) = encode_frame(&FastTransform, picture, &FORMAT, &RATES, reference, frame);

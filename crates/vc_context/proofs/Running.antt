@@ -24,7 +24,8 @@ use Rattle.vc_work.specs.declared.engine.Outcome.TheVariants.{Copied, Encoded, P
 use Rattle.vc_work.specs.declared.engine.EngineFault.{EngineFault}
 use Rattle.vc_work.specs.References.{CodecReference}
 use Rattle.vc_work.specs.Streams.{HasStream, picture_of}
-use Rattle.vc_work.specs.Runs.{Fits, HasAll, HasDest, IsRun, Does, DoesDecode, IsCopied, IsEncoded, IsDecoded, KeepsLengths, dest_bytes, copied_over, copied_length, coder_state, with_state, next_frame, put_over, run_rates, format_geometry, HasGeometry, stream_state, fresh_bytes, next_result, told_as, shown_in, geometry_behind, result_of as result_in}
+use Rattle.vc_defs.specs.Raw.{geometry_of}
+use Rattle.vc_work.specs.Runs.{Fits, HasAll, HasDest, IsRun, Does, DoesDecode, IsCopied, IsEncoded, IsDecoded, KeepsLengths, dest_bytes, copied_over, copied_length, coder_state, with_state, next_frame, put_over, run_rates, HasGeometry, stream_state, fresh_bytes, next_result, told_as, shown_in, geometry_behind, result_of as result_in}
 use Rattle.vc_context.specs.Works.{IsWork, IsSort, IsCodec, HasState, IsDest, IsSourceBack, HasFront, HasBytes, HasFrame, HasRoomFor, IsAsLong, HasAreas, IsShown, HasResult, HasDecoded, is_decoding, IsResult, IsBack}
 use Rattle.vc_context.specs.Laws.{put_back, RunsAreBack}
 
@@ -91,7 +92,7 @@ state_there state None h = absurd h
 state_there state (Some r) h = h
 
 -- the picture of a frame is of its format
-frame_picture : (state : EncoderState) (format : Format) (rates : RunRates) (bytes : List ℕ) → HasGeometry (format_geometry format) (encode_frame state format rates bytes).state.reference
+frame_picture : (state : EncoderState) (format : Format) (rates : RunRates) (bytes : List ℕ) → HasGeometry (geometry_of format) (encode_frame state format rates bytes).state.reference
 unfolding encode_frame
 frame_picture state format rates bytes = refl
 
@@ -212,7 +213,7 @@ module _ (j : JobData) (old ran : Work) (h : IsWork j old) (fits : Fits old) (le
         bytes = record { told = e.told; front = frame_front j.dest least (dest_bytes old) (dest_bytes new) (next_frame old).bytes d e.dest; source_bytes = source_kept (Encoded count key) r };
         told_key = e.told_key;
         state = state_put state (next_frame old).state old.reference new.reference c e.reference;
-        picture = subst (λ (f : Format). HasGeometry (format_geometry f) (next_frame old).state.reference) h.format (frame_picture (coder_state old.reference) old.format (run_rates old.rates) (take old.source.used old.source.payload.items));
+        picture = subst (λ (f : Format). HasGeometry (geometry_of f) (next_frame old).state.reference) h.format (frame_picture (coder_state old.reference) old.format (run_rates old.rates) (take old.source.used old.source.payload.items));
       }
 
   -- the next result is the one that the model's run comes to

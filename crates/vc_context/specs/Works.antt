@@ -12,7 +12,8 @@ use Rattle.vc_model.specs.Core.{BroughtBack}
 use Rattle.vc_model.specs.Sound.{HasCodec as HasCodecOfKind, IsRunOf, dest_count}
 use Rattle.vc_work.specs.References.{CodecReference}
 use Rattle.vc_work.specs.Streams.{picture_of, HasStream}
-use Rattle.vc_work.specs.Runs.{dest_bytes, run_rates, format_geometry, HasGeometry, assembly_limit, stream_state, told_as, geometry_behind, BringsLegal}
+use Rattle.vc_defs.specs.Raw.{geometry_of}
+use Rattle.vc_work.specs.Runs.{dest_bytes, run_rates, HasGeometry, assembly_limit, stream_state, told_as, geometry_behind, BringsLegal}
 use Rattle.vc_work.specs.declared.work.Sort.{Sort}
 use Rattle.vc_work.specs.declared.work.Sort.TheVariants as sort
 use Rattle.vc_work.specs.declared.work.Piece.{Piece}
@@ -152,7 +153,7 @@ pub record HasFrame (frame : EncodedFrame) (j : JobData) (work : Work) (used : �
   pub bytes : HasBytes frame.bytes j.source work used
   pub told_key : key ≡ frame.key
   pub state : HasState frame.state work.reference
-  pub picture : HasGeometry (format_geometry j.format) frame.state.reference
+  pub picture : HasGeometry (geometry_of j.format) frame.state.reference
 
 -- what a decoder's result shows stands in the destination
 abbrev pub IsShown : DecodedResult → Option (List ℕ) → Type 0

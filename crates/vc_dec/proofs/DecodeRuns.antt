@@ -24,7 +24,8 @@ use Rattle.vc_resync.specs.Assembling.{AssemblyState}
 use Rattle.vc_work.specs.declared.work.Work.{Work}
 use Rattle.vc_work.specs.References.{CodecReference, HasRoomFor}
 use Rattle.vc_work.specs.Streams.{decoder_of, kept_of, picture_of, IsInStep}
-use Rattle.vc_work.specs.Runs.{HasArea, format_geometry}
+use Rattle.vc_defs.specs.Raw.{geometry_of}
+use Rattle.vc_work.specs.Runs.{HasArea}
 use Rattle.vc_context.specs.Contexts.{IsKept}
 use Rattle.vc_context.specs.Works.{IsDest, IsAsLong, IsWork, IsWorkWith, RunsIn, RunsInWith}
 use Rattle.vc_context.proofs.Going.{lent_out}
@@ -77,7 +78,7 @@ more_room None a b h l = tt
 more_room (Some r) a b h l = omega (arith, h, l)
 
 -- the geometry is that of the raw format
-same_geometry : (g : Geometry) (format : Format) → IsFormatOf g format → g ≡ format_geometry format
+same_geometry : (g : Geometry) (format : Format) → IsFormatOf g format → g ≡ geometry_of format
 same_geometry g format f =
     ap (λ w. let x : Geometry = record { width = w; height = g.height; layout = g.layout } in x) (sym f.0)
     ∙ (ap (λ h. let x : Geometry = record { width = format.width; height = h; layout = g.layout } in x) (sym f.1)

@@ -12,7 +12,8 @@ use Rattle.vc_queue.specs.Lending.{IsLent}
 use Rattle.vc_resync.specs.Assembling.{AssemblyState}
 use Rattle.vc_work.specs.References.{CodecReference}
 use Rattle.vc_work.specs.Streams.{decoder_of, picture_of, kept_of, HasStream}
-use Rattle.vc_work.specs.Runs.{HasArea, format_geometry}
+use Rattle.vc_defs.specs.Raw.{geometry_of}
+use Rattle.vc_work.specs.Runs.{HasArea}
 use Rattle.vc_context.specs.Works.{IsDest, IsAsLong}
 use Rattle.vc_dec.specs.Parts.{limit_of}
 
@@ -60,7 +61,7 @@ pub record CanProbe (source_lent : Lent) (assembly : Option AssemblyState) (limi
 pub record CanDecode (source_lent dest_lent : Lent) (reference : Option CodecReference) (assembly : Option AssemblyState) (geometry : Option Geometry) (format : Format) (limit : ℕ) : Type 0 where
   pub piece : IsPiece source_lent
   pub raw : IsRawFormat format
-  pub same : geometry ≡ Some (format_geometry format)
+  pub same : geometry ≡ Some (geometry_of format)
   pub room : format.size ≤ length dest_lent.payload.items
   pub area : HasArea format.size reference
   pub stream : HasStream limit geometry (picture_of reference) assembly

@@ -12,21 +12,20 @@ use Rattle.vc_defs.specs.declared.Header.{Header}
 use Rattle.vc_defs.specs.Places.{Frame}
 use Rattle.vc_defs.specs.Finds.{Ended}
 use Rattle.vc_defs.specs.Bodies.{IsPicture, body_planes}
-use Rattle.vc_defs.specs.Raw.{raw_of}
+use Rattle.vc_defs.specs.Raw.{raw_of, geometry_of}
 use Rattle.vc_defs.specs.Laws.{IsRawFormat}
 use Rattle.vc_defs.specs.Decoder.{BetweenFrames, ReferenceState, same_geometry, is_present, is_passed_over, follows_reference, reference_planes, frame_planes, picture_planes, given_by, given_at_end, given_by_find}
 use Rattle.vc_defs.proofs.Waiting.{geometry_same}
 use Rattle.vc_defs.proofs.RawPictures.{raw_has_its_size}
 use Rattle.vc_defs.proofs.Pictures.{decoded_is_picture}
 use Rattle.vc_work.specs.References.{CodecReference, picture_total}
-use Rattle.vc_work.specs.Runs.{format_geometry}
 use Rattle.vc_frame.specs.Frames.{with_picture, picture_of, shown_over}
 use Rattle.vc_frame.proofs.RawOrders.{raw_total}
 use Rattle.vc_decode.specs.declared.decoded.Decoded.TheVariants.{Picture}
 use Rattle.vc_decode.specs.Steps.{RunPoint, present_of, ended_by}
 
 -- the bytes of a picture of the present geometry
-pub total_is : (format : Format) (geometry : Geometry) (h : Header) → IsRawFormat format → format_geometry format ≡ geometry → same_geometry geometry h.geometry ≡ true → picture_total h.geometry ≡ format.size
+pub total_is : (format : Format) (geometry : Geometry) (h : Header) → IsRawFormat format → geometry_of format ≡ geometry → same_geometry geometry h.geometry ≡ true → picture_total h.geometry ≡ format.size
 total_is format geometry h raw same is =
     ap (λ (g : Geometry). picture_total g) (sym (same ∙ geometry_same geometry h.geometry is)) ∙ raw_total format.fourcc format.width format.height raw.0 ∙ sym raw.1
 
@@ -39,7 +38,7 @@ planes_of_body h r body planes e = by_test (h.key || follows_reference h r) e
     by_test false e = absurd (none-some planes e)
 
 -- a picture in the raw format has the format's size
-picture_long : (format : Format) (h : Header) (r : Option ReferenceState) (body : List ℕ) (planes : List (List ℕ)) → IsRawFormat format → format_geometry format ≡ h.geometry → frame_planes h r body ≡ Some planes → length (raw_of format.fourcc planes) ≡ format.size
+picture_long : (format : Format) (h : Header) (r : Option ReferenceState) (body : List ℕ) (planes : List (List ℕ)) → IsRawFormat format → geometry_of format ≡ h.geometry → frame_planes h r body ≡ Some planes → length (raw_of format.fourcc planes) ≡ format.size
 picture_long format h r body planes raw same e =
     let p : IsPicture h.geometry planes = decoded_is_picture h (reference_planes r) body planes (planes_of_body h r body planes e) in
     raw_has_its_size format.fourcc format.width format.height planes raw.0 (subst (λ (g : Geometry). IsPicture g planes) (sym same) p) ∙ sym raw.1
@@ -56,7 +55,7 @@ planes_at_end f h body geometry reference eh eb is =
     ∙ cond-true (h.key || is_present (Some geometry) h.geometry) (frame_planes h reference body) None (or_true h.key (same_geometry geometry h.geometry) is)
 
 -- A frame that gives planes ends the run with a picture.
-pub shows_picture : (format : Format) (geometry : Geometry) (h : Header) (body : List ℕ) (stamp : Stamp) (r new : CodecReference) (dest shown : List ℕ) → IsRawFormat format → format_geometry format ≡ geometry → is_passed_over h r.state.reference ≡ false → same_geometry geometry h.geometry ≡ true →
+pub shows_picture : (format : Format) (geometry : Geometry) (h : Header) (body : List ℕ) (stamp : Stamp) (r new : CodecReference) (dest shown : List ℕ) → IsRawFormat format → geometry_of format ≡ geometry → is_passed_over h r.state.reference ≡ false → same_geometry geometry h.geometry ≡ true →
     IsSome (frame_planes h r.state.reference body) → new ≡ with_picture (picture_of h (frame_planes h r.state.reference body)) r → shown ≡ shown_over format.fourcc (frame_planes h r.state.reference body) dest →
     (f : Frame) → f.header ≡ h → f.body ≡ Some body →
     record { answer = Some (Picture format.size h.key stamp); reference = new; dest = shown } ≡ ended_by format.fourcc stamp r dest (given_by_find (Ended f) (present_of (Some geometry) r.state.reference))

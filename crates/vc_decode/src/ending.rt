@@ -8,7 +8,7 @@ ghost use Rattle.vc_defs.specs.Places.{Frame};
 ghost use Rattle.vc_defs.specs.Finds.{Find, Ended};
 ghost use Rattle.vc_defs.specs.Decoder.{same_geometry, is_passed_over, is_change, given_at_header, given_by_find};
 ghost use Rattle.vc_defs.specs.Laws.{IsRawFormat};
-ghost use Rattle.vc_work.specs.Runs.{format_geometry};
+ghost use Rattle.vc_defs.specs.Raw.{geometry_of};
 ghost use Rattle.vc_frame.specs.Frames.{with_picture};
 ghost use Rattle.vc_resync.specs.Assembling.{found_of, frame_of, IsToldBy, IsLegalAnswer};
 ghost use Rattle.vc_decode.specs.Steps.{RunPoint, present_of, ended_by, ended_at, HasPresent, EndsPresent, probed_at};
@@ -88,7 +88,7 @@ fn at_whole<T: Transform>(
     requires header { is_legal most_bytes header.now ≡ true }
     requires present { HasPresent (Some geometry.now) header.now }
     requires raw_format { IsRawFormat format.now }
-    requires same { format_geometry format.now ≡ geometry.now }
+    requires same { geometry_of format.now ≡ geometry.now }
     requires area { format.now.size ≤ reference.old.size }
     requires room { format.now.size ≤ length dest.old }
     ensures { (frame : Frame) → frame.header ≡ header.now → frame.body ≡ Some body.now → record { answer = result; reference = reference.new; dest = dest.new } ≡ ended_by format.now.fourcc stamp reference.old dest.old (given_by_find (Ended frame) (present_of (Some geometry.now) reference.old.state.reference)) }
@@ -124,7 +124,7 @@ pub(crate) fn ended_at<T: Transform>(
     requires told { IsToldBy found.now assembly.now.told }
     requires present { EndsPresent (Some geometry.now) found.now }
     requires raw_format { IsRawFormat format.now }
-    requires same { format_geometry format.now ≡ geometry.now }
+    requires same { geometry_of format.now ≡ geometry.now }
     requires area { format.now.size ≤ reference.old.size }
     requires room { format.now.size ≤ length dest.old }
     ensures { (told : Option Find) (first : Stamp) → found.now ≡ found_of told → assembly.now.told ≡ frame_of told first → record { answer = result; reference = reference.new; dest = dest.new } ≡ ended_at format.now.fourcc first (Some geometry.now) reference.old dest.old told }

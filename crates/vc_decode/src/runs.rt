@@ -4,7 +4,7 @@ ghost use Rattle.std.specs.Prelude.{◌≡◌, ◌≤◌, length, Some, None};
 ghost use Rattle.vc_base.specs.declared.Fourcc.{Fourcc};
 ghost use Rattle.vc_defs.specs.Decoder.{decode, step_outcome};
 ghost use Rattle.vc_defs.specs.Laws.{IsRawFormat};
-ghost use Rattle.vc_work.specs.Runs.{format_geometry};
+ghost use Rattle.vc_defs.specs.Raw.{geometry_of};
 ghost use Rattle.vc_frame.specs.Frames.{with_picture};
 ghost use Rattle.vc_decode.specs.Running.{decoder_of, answer_of, shown_in, geometry_behind, IsInStep, IsOfHeaders, IsLegalChange};
 
@@ -35,7 +35,7 @@ pub fn decode_run<T: Transform>(
 ) -> (usize, Decoded)
     requires in_step { IsInStep assembly.old.limit (Some geometry.now) reference.old.state.reference assembly.old.kept }
     requires raw_format { IsRawFormat format.now }
-    requires same { format_geometry format.now ≡ geometry.now }
+    requires same { geometry_of format.now ≡ geometry.now }
     requires area { format.now.size ≤ reference.old.size }
     requires room { format.now.size ≤ length dest.old }
     ensures consumed { let step = decode (decoder_of reference.old.state.reference assembly.old.kept) (Some geometry.now) assembly.old.limit source.now stamp in result.0 ≡ step.moved }

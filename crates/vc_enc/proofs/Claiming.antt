@@ -11,7 +11,7 @@ use Rattle.vc_defs.specs.declared.Layout.TheVariants.{Grey, C420, C422}
 use Rattle.vc_defs.specs.Bodies.{padded_sum}
 use Rattle.vc_defs.specs.Encoder.{RunRates}
 use Rattle.vc_defs.specs.Laws.{AreRates}
-use Rattle.vc_defs.specs.Raw.{layout_of}
+use Rattle.vc_defs.specs.Raw.{layout_of, geometry_of}
 use Rattle.vc_model.specs.Formats.{FormatPair, frame_room}
 use Rattle.vc_model.specs.Context.{Context, PhaseState, run, owe, last, stopped, is_run, is_drained, encode}
 use Rattle.vc_model.specs.Core.{claimed_in}
@@ -25,7 +25,7 @@ use Rattle.vc_queue.proofs.Keeping.{fits_lent}
 use Rattle.vc_work.specs.declared.work.Rates.{Rates}
 use Rattle.vc_work.specs.declared.work.Work.{Work}
 use Rattle.vc_work.specs.References.{CodecReference}
-use Rattle.vc_work.specs.Runs.{HasReference, run_rates, format_geometry}
+use Rattle.vc_work.specs.Runs.{HasReference, run_rates}
 use Rattle.vc_pair.specs.Pairs.{PairState, owes_last, is_held_back, queue_at, with_queue_at}
 use Rattle.vc_context.specs.Contexts.{AreFilled, has_work, IsKept, IsStep}
 use Rattle.vc_context.specs.Payloads.{FitsContext}
@@ -210,7 +210,7 @@ module _ (formats : FormatPair) (rates : RunRates) (p : PairState) (events : Eve
   claim_fits source dest asked l m range =
       let f : source.used ≤ length source.payload.items = front_filled p.out.ready source due.source k.filled l in
       let long : formats.cap.size ≤ length dest.payload.items = front_long formats.cap.size p.cap.ready dest due.dest inv.long m in
-      let cap : formats.cap.size ≡ 44 + padded_sum (format_geometry formats.out) = ap (λ (x : Format). x.size) inv.stands.2 ∙ room_is (layout_of formats.out.fourcc) formats.out.width formats.out.height in
+      let cap : formats.cap.size ≡ 44 + padded_sum (geometry_of formats.out) = ap (λ (x : Format). x.size) inv.stands.2 ∙ room_is (layout_of formats.out.fourcc) formats.out.width formats.out.height in
       record {
         filled = omega (arith, f, source.payload.ok.0);
         whole = front_whole formats.out.size p.out.ready source due.source inv.whole l;

@@ -25,7 +25,8 @@ use Rattle.vc_work.specs.declared.engine.Outcome.{Outcome}
 use Rattle.vc_work.specs.declared.engine.Outcome.TheVariants.{Copied, Encoded, Picture, Damaged, Changed, Spent}
 use Rattle.vc_work.specs.declared.engine.EngineFault.{EngineFault}
 use Rattle.vc_work.specs.References.{CodecReference}
-use Rattle.vc_work.specs.Runs.{dest_bytes, HasReference, HasGeometry, format_geometry}
+use Rattle.vc_defs.specs.Raw.{geometry_of}
+use Rattle.vc_work.specs.Runs.{dest_bytes, HasReference, HasGeometry}
 use Rattle.vc_pair.specs.Pairs.{PairState, IsSettled, source_retired, out_retired, cap_retired, is_final}
 use Rattle.vc_pair.specs.Rows.{IsRunFlag, keyframe, pframe, error, JobsAgree}
 use Rattle.vc_pair.proofs.Rows.{same_retired}
@@ -179,10 +180,10 @@ anew_reference : (format : Format) (reference : Option CodecReference) → HasRo
 anew_reference format None h = absurd h
 anew_reference format (Some r) h = (h, tt)
 
-frame_reference : (format : Format) (state : EncoderState) (reference : Option CodecReference) → HasRoomForPicture format reference → HasState state reference → HasGeometry (format_geometry format) state.reference → HasReference format reference
+frame_reference : (format : Format) (state : EncoderState) (reference : Option CodecReference) → HasRoomForPicture format reference → HasState state reference → HasGeometry (geometry_of format) state.reference → HasReference format reference
 frame_reference format state None h s g = absurd h
 frame_reference format state (Some r) h s g =
-    (h, subst (λ (x : EncoderState). HasGeometry (format_geometry format) x.reference) (sym s) g)
+    (h, subst (λ (x : EncoderState). HasGeometry (geometry_of format) x.reference) (sym s) g)
 
 supplied_by : (format : Format) (n : ℕ) (reference : Option CodecReference) → 0 < n → HasReference format reference → IsSupplied format n reference
 supplied_by format n None some h = absurd h

@@ -13,7 +13,8 @@ use Rattle.vc_work.specs.declared.work.Sort.TheVariants as sort
 use Rattle.vc_work.specs.declared.engine.Outcome.TheVariants.{Encoded}
 use Rattle.vc_work.specs.declared.engine.EngineFault.{EngineFault}
 use Rattle.vc_work.specs.References.{CodecReference}
-use Rattle.vc_work.specs.Runs.{Fits, HasAll, HasPicture, HasReference, HasDest, HasGeometry, dest_bytes, coder_state, format_geometry}
+use Rattle.vc_defs.specs.Raw.{geometry_of}
+use Rattle.vc_work.specs.Runs.{Fits, HasAll, HasPicture, HasReference, HasDest, HasGeometry, dest_bytes, coder_state}
 use Rattle.vc_context.specs.Works.{IsSort, IsCodec, IsSourceBack, HasState, HasRoomFor, HasAreas, HasFront, IsBackOf, IsWork, IsWorkWith, RunsInWith}
 use Rattle.vc_context.specs.Contexts.{IsCounted, HasRoom}
 
@@ -47,7 +48,7 @@ first_eight least (Some payload) e h =
     let n : length (take 8 payload) ≡ 8 = omega (arith, length-take 8 payload) in
     (take 8 payload, n, ap (λ (k : ℕ). take k payload) n)
 
-state_in : (reference : Option CodecReference) (format : Format) → HasReference format reference → HasState (coder_state reference) reference × HasGeometry (format_geometry format) (coder_state reference).reference
+state_in : (reference : Option CodecReference) (format : Format) → HasReference format reference → HasState (coder_state reference) reference × HasGeometry (geometry_of format) (coder_state reference).reference
 state_in None format h = absurd h
 state_in (Some r) format h = (refl, h.1)
 
@@ -73,7 +74,7 @@ frame_back c (Some j) work key e w f r =
             bytes = record { told = sym front.1; front = front.2; source_bytes = w.source.bytes };
             told_key = refl;
             state = s.0;
-            picture = subst (λ (g : Format). HasGeometry (format_geometry g) (coder_state work.reference).reference) w.format s.1;
+            picture = subst (λ (g : Format). HasGeometry (geometry_of g) (coder_state work.reference).reference) w.format s.1;
           },
         );
       };

@@ -10,7 +10,8 @@ use Rattle.vc_model.specs.Runs.{JobData}
 use Rattle.vc_queue.specs.declared.queue.Lent.{Lent}
 use Rattle.vc_queue.specs.Lending.{IsLent}
 use Rattle.vc_work.specs.References.{CodecReference}
-use Rattle.vc_work.specs.Runs.{HasReference, coder_state, format_geometry, run_rates}
+use Rattle.vc_defs.specs.Raw.{geometry_of}
+use Rattle.vc_work.specs.Runs.{HasReference, coder_state, run_rates}
 use Rattle.vc_work.specs.declared.work.Rates.{Rates}
 use Rattle.vc_work.specs.declared.engine.Outcome.{Outcome}
 use Rattle.vc_work.specs.declared.engine.Outcome.TheVariants.{Encoded}
@@ -34,7 +35,7 @@ pub record IsGiven (j : JobData) (source_lent dest_lent : Lent) (reference : Opt
 pub record CanEncode (source_lent dest_lent : Lent) (reference : Option CodecReference) (format : Format) (rates : Rates) : Type 0 where
   pub filled : source_lent.used ≤ vec_len source_lent.payload
   pub whole : source_lent.used ≡ format.size
-  pub room : 44 + padded_sum (format_geometry format) ≤ length dest_lent.payload.items
+  pub room : 44 + padded_sum (geometry_of format) ≤ length dest_lent.payload.items
   pub picture : HasReference format reference
   pub raw : IsRawFormat format
   pub range : AreRates (run_rates rates)

@@ -16,11 +16,11 @@ use Rattle.vc_defs.specs.declared.Layout.TheVariants.{Grey, C420, C422}
 use Rattle.vc_defs.specs.Bodies.{IsPicture, plane_shapes}
 use Rattle.vc_defs.specs.Headers.{is_legal_geometry, is_legal_size, size_suits, is_even}
 use Rattle.vc_defs.specs.Laws.{IsRawFormat}
-use Rattle.vc_defs.specs.Raw.{grey, yu12, nv12, yuyv, same_fourcc, layout_of, planes_of, generated, generated_planes, generated_plane, generated_sample}
+use Rattle.vc_defs.specs.Raw.{grey, yu12, nv12, yuyv, same_fourcc, layout_of, geometry_of, planes_of, generated, generated_planes, generated_plane, generated_sample}
 use Rattle.vc_defs.proofs.RawPictures.{raw_both_ways}
 use Rattle.vc_model.specs.Formats.{listed_or, width_for, height_for, raised_to_even, clamp, raw_format}
 use Rattle.vc_encode_flow.specs.Flows.{IsKept}
-use Rattle.vc_encode_flow.specs.Shares.{geometry_of, raw_picture}
+use Rattle.vc_encode_flow.specs.Shares.{raw_picture}
 
 -- A format that an encoder keeps is a raw format
 

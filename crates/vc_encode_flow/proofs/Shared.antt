@@ -8,12 +8,12 @@ use Rattle.vc_base.specs.declared.Fourcc.{Fourcc}
 use Rattle.vc_defs.specs.Encoder.{fresh_encoder, encoded, encoded_after, encoded_bytes}
 use Rattle.vc_defs.specs.Laws.{IsRawFormat}
 use Rattle.vc_defs.specs.Outputs.{default_rates, fold_of, shared_bytes, shared_frames, frames_of, frames_bytes, generated_pictures}
-use Rattle.vc_defs.specs.Raw.{layout_of}
+use Rattle.vc_defs.specs.Raw.{layout_of, geometry_of}
 use Rattle.vc_model.specs.Solo.{SoloEvent}
 use Rattle.vc_port.specs.Payloads.{bytes_out, good_finishes}
 use Rattle.vc_encode_flow.specs.Frames.{frames_from, joined}
 use Rattle.vc_encode_flow.specs.Flows.{FlowSoFar, IsKept, IsFlow, flow_of, with_picture}
-use Rattle.vc_encode_flow.specs.Shares.{geometry_of, generated_bytes, SharedInYu12, raw_picture, raw_pictures, IsSharing}
+use Rattle.vc_encode_flow.specs.Shares.{generated_bytes, SharedInYu12, raw_picture, raw_pictures, IsSharing}
 use Rattle.vc_encode_flow.specs.Tallies.{tally_of, folded}
 use Rattle.vc_encode_flow.specs.declared.tallying.Tally.{Tally}
 use Rattle.vc_encode_flow.proofs.Frames.{frames_are_encoded}

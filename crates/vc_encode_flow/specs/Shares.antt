@@ -2,19 +2,14 @@
 use Rattle.std.specs.Prelude.{ℕ, ◌≡◌, map, length, List}
 use Rattle.std.specs.List.{range_with_len}
 use Rattle.vc_base.specs.declared.Format.{Format}
-use Rattle.vc_defs.specs.declared.Geometry.{Geometry}
 use Rattle.vc_defs.specs.Encoder.{Encoded}
 use Rattle.vc_defs.specs.Outputs.{default_rates, generated_pictures, frames_of, frames_bytes, shared_bytes}
-use Rattle.vc_defs.specs.Raw.{raw_of, layout_of, generated, yu12}
+use Rattle.vc_defs.specs.Raw.{raw_of, geometry_of, generated, yu12}
 use Rattle.vc_model.specs.Solo.{SoloEvent}
 use Rattle.vc_encode_flow.specs.Frames.{joined}
 use Rattle.vc_encode_flow.specs.Flows.{IsFlow}
 use Rattle.vc_encode_flow.specs.Tallies.{tally_of}
 use Rattle.vc_encode_flow.specs.declared.tallying.Tally.{Tally}
-
--- the size and the layout of the format's pictures
-abbrev pub geometry_of : Format → Geometry
-geometry_of format = record { width = format.width; height = format.height; layout = layout_of format.fourcc }
 
 -- the frames of the generator's first pictures for a number, in a raw format, at the rates that an encoder begins with
 abbrev pub generated_frames : Format → ℕ → ℕ → List Encoded

@@ -12,7 +12,7 @@ use Rattle.vc_defs.specs.declared.Geometry.{Geometry}
 use Rattle.vc_defs.specs.declared.Header.{Header}
 use Rattle.vc_defs.specs.Headers.{header_bytes, header_from, most_bytes, is_legal_geometry, is_legal_size, size_suits}
 use Rattle.vc_defs.specs.Bodies.{IsPicture, body_planes}
-use Rattle.vc_defs.specs.Raw.{raw_of}
+use Rattle.vc_defs.specs.Raw.{raw_of, geometry_of}
 use Rattle.vc_defs.specs.Decoder.{ReferenceState, reference_planes, same_geometry, is_next_number, follows_reference, frame_planes}
 use Rattle.vc_defs.specs.Encoder.{RunRates, EncoderState, Encoded, EncodedFrame, is_key_due, next_encoded, encoded_bytes, encoder_after, encode}
 use Rattle.vc_defs.specs.Laws.{IsReferenceOf}
@@ -21,7 +21,6 @@ use Rattle.vc_defs.proofs.HeaderBack.{header_back}
 use Rattle.vc_defs.proofs.Resuming.{same_geometry_is}
 use Rattle.vc_defs.proofs.Waiting.{length-header_bytes}
 use Rattle.vc_defs.proofs.WrittenBodies.{body_back}
-use Rattle.vc_work.specs.Runs.{format_geometry}
 use Rattle.vc_frame.specs.Frames.{picture_of}
 use Rattle.vc_frame.specs.Laws.{CountsOn, IsFollowed, FramesComeBack}
 
@@ -82,7 +81,7 @@ comes_back s g rates planes legal p f =
 
 pub frames_come_back : FramesComeBack
 frames_come_back s format rates planes raw p f =
-    let g : Geometry = format_geometry format in
+    let g : Geometry = geometry_of format in
     let e : Encoded = next_encoded g s planes rates in
     let made : EncodedFrame = record { bytes = encoded_bytes e; key = e.header.key; state = encoder_after s e } in
     let is : encode s format rates (raw_of format.fourcc planes) ≡ made = encodes_planes s format rates planes raw.0 p in

@@ -15,13 +15,13 @@ use Rattle.vc_defs.specs.Bytes.{written_at}
 use Rattle.vc_defs.specs.Headers.{header_bytes, is_legal_geometry, is_legal_number, is_whole_header, raw_suits, is_legal, most_bytes}
 use Rattle.vc_defs.specs.Planes.{WrittenPlane}
 use Rattle.vc_defs.specs.Bodies.{IsPicture, plane_shapes, shapes_of, padded_sum}
-use Rattle.vc_defs.specs.Raw.{cut_into, planes_of}
+use Rattle.vc_defs.specs.Raw.{cut_into, planes_of, geometry_of}
 use Rattle.vc_defs.specs.Decoder.{ReferenceState, reference_planes}
 use Rattle.vc_defs.specs.Encoder.{RunRates, EncoderState, Encoded, written_planes, body_of, encoded_picture, is_key_due, next_encoded, encoder_after, encode}
 use Rattle.vc_defs.proofs.Encoding.{frame_fits, FrameFits}
 use Rattle.vc_defs.proofs.Waiting.{length-header_bytes}
 use Rattle.vc_work.specs.References.{CodecReference, reference_of, picture_in, picture_total}
-use Rattle.vc_work.specs.Runs.{HasGeometry, format_geometry, put_over, with_state}
+use Rattle.vc_work.specs.Runs.{HasGeometry, put_over, with_state}
 use Rattle.vc_frame.specs.Planes.{AreWritten}
 use Rattle.vc_frame.specs.declared.planes.Body.{Body}
 use Rattle.vc_frame.specs.declared.planes.Coding.{Coding}
@@ -82,21 +82,21 @@ header_put header body out long room =
 
 -- the next frame of a picture in a raw format, and its planes as they are written
 abbrev pub next_of : Format → RunRates → EncoderState → List ℕ → Encoded
-next_of format rates s raw = next_encoded (format_geometry format) s (planes_of format.fourcc format.width format.height raw) rates
+next_of format rates s raw = next_encoded (geometry_of format) s (planes_of format.fourcc format.width format.height raw) rates
 
 abbrev pub next_written : Format → RunRates → EncoderState → List ℕ → List WrittenPlane
 next_written format rates s raw =
     let key = is_key_due s.reference s.since_key rates.gop in
-    written_planes (not key) (cond key rates.iqp rates.pqp) (plane_shapes (format_geometry format)) (planes_of format.fourcc format.width format.height raw) (reference_planes s.reference)
+    written_planes (not key) (cond key rates.iqp rates.pqp) (plane_shapes (geometry_of format)) (planes_of format.fourcc format.width format.height raw) (reference_planes s.reference)
 
 -- The planes of the next frame were written.
 pub as_next : (format : Format) (rates : RunRates) (raw area bytes shown out mid : List ℕ) (geometry : Option Geometry) (number : Option ℕ) (since_key since_reset : ℕ) (r : CodecReference) (g : Geometry) (key : Bool) (coding : Coding) (body : Body) →
-    g ≡ format_geometry format → bytes ≡ area → reference_of area geometry number since_key since_reset ≡ r → key ≡ is_key_due r.state.reference r.state.since_key rates.gop → coding.inter ≡ not key → coding.qp ≡ cond key rates.iqp rates.pqp →
-    HasGeometry (format_geometry format) r.state.reference →
+    g ≡ geometry_of format → bytes ≡ area → reference_of area geometry number since_key since_reset ≡ r → key ≡ is_key_due r.state.reference r.state.since_key rates.gop → coding.inter ≡ not key → coding.qp ≡ cond key rates.iqp rates.pqp →
+    HasGeometry (geometry_of format) r.state.reference →
     AreWritten (written_planes coding.inter coding.qp (plane_shapes g) (planes_of format.fourcc g.width g.height raw) (cut_into (plane_shapes g) bytes)) (picture_total g) bytes shown out mid 44 body →
-    AreWritten (next_written format rates r.state raw) (picture_total (format_geometry format)) area shown out mid 44 body
+    AreWritten (next_written format rates r.state raw) (picture_total (geometry_of format)) area shown out mid 44 body
 as_next format rates raw area bytes shown out mid geometry number since_key since_reset r g key coding body eg ea er ek ei eq same w =
-    let f : Geometry = format_geometry format in
+    let f : Geometry = geometry_of format in
     let planes : List (List ℕ) = planes_of format.fourcc format.width format.height raw in
     let here : CodecReference = reference_of area geometry number since_key since_reset in
     let due : Bool = is_key_due (picture_in geometry number area) since_key rates.gop in
@@ -125,28 +125,28 @@ pub record IsNext (format : Format) (rates : RunRates) (raw out mid shown : List
   pub long : body.end ≡ length (encode r.state format rates raw).bytes
   pub bytes : put_over (header_bytes header) mid ≡ put_over (encode r.state format rates raw).bytes out
   pub told : key ≡ (encode r.state format rates raw).key
-  pub state : reference_of shown (Some (format_geometry format)) (Some r.state.since_reset) (cond key 1 (r.state.since_key + 1)) ((r.state.since_reset + 1) % 2048) ≡ with_state (encode r.state format rates raw).state r
+  pub state : reference_of shown (Some (geometry_of format)) (Some r.state.since_reset) (cond key 1 (r.state.since_key + 1)) ((r.state.since_reset + 1) % 2048) ≡ with_state (encode r.state format rates raw).state r
 
 -- no frame is longer than a header and the longest body
 pub body_small : (format : Format) (rates : RunRates) (raw area shown out mid : List ℕ) (r : CodecReference) (body : Body) →
-    is_legal_geometry (format_geometry format) ≡ true → IsPicture (format_geometry format) (planes_of format.fourcc format.width format.height raw) → r.state.since_reset < 2048 →
-    AreWritten (next_written format rates r.state raw) (picture_total (format_geometry format)) area shown out mid 44 body → body.end ≤ 17694764
+    is_legal_geometry (geometry_of format) ≡ true → IsPicture (geometry_of format) (planes_of format.fourcc format.width format.height raw) → r.state.since_reset < 2048 →
+    AreWritten (next_written format rates r.state raw) (picture_total (geometry_of format)) area shown out mid 44 body → body.end ≤ 17694764
 body_small format rates raw area shown out mid r body legal picture small w =
     let s : EncoderState = r.state in
     let due : Bool = is_key_due s.reference s.since_key rates.gop in
-    let ff : FrameFits (format_geometry format) (next_of format rates s raw) = frame_fits (format_geometry format) due (cond due rates.iqp rates.pqp) s.since_reset (planes_of format.fourcc format.width format.height raw) (reference_planes s.reference) legal picture small in
+    let ff : FrameFits (geometry_of format) (next_of format rates s raw) = frame_fits (geometry_of format) due (cond due rates.iqp rates.pqp) s.since_reset (planes_of format.fourcc format.width format.height raw) (reference_planes s.reference) legal picture small in
     let few : length (body_of (next_written format rates s raw)) ≤ most_bytes = size_small most_bytes (next_of format rates s raw).header ff.legal in
     omega (arith, w.end, few)
 
 pub is_next : (format : Format) (rates : RunRates) (raw area shown out mid : List ℕ) (r : CodecReference) (g : Geometry) (number : ℕ) (key : Bool) (header : Header) (body : Body) →
-    is_legal_geometry (format_geometry format) ≡ true → IsPicture (format_geometry format) (planes_of format.fourcc format.width format.height raw) → r.state.since_reset < 2048 →
-    44 + padded_sum (format_geometry format) ≤ length out → length shown ≡ r.size → g ≡ format_geometry format → number ≡ r.state.since_reset → key ≡ is_key_due r.state.reference r.state.since_key rates.gop →
+    is_legal_geometry (geometry_of format) ≡ true → IsPicture (geometry_of format) (planes_of format.fourcc format.width format.height raw) → r.state.since_reset < 2048 →
+    44 + padded_sum (geometry_of format) ≤ length out → length shown ≡ r.size → g ≡ geometry_of format → number ≡ r.state.since_reset → key ≡ is_key_due r.state.reference r.state.since_key rates.gop →
     header ≡ record { geometry = g; key = key; raw = body.raw; colour = 0 ∷ 0 ∷ 0 ∷ 0 ∷ []; size = body.end - 44; number = Some number } →
-    AreWritten (next_written format rates r.state raw) (picture_total (format_geometry format)) area shown out mid 44 body →
+    AreWritten (next_written format rates r.state raw) (picture_total (geometry_of format)) area shown out mid 44 body →
     IsNext format rates raw out mid shown r key header body
 unfolding encode
 is_next format rates raw area shown out mid r g number key header body legal picture small room long eg en ek eh w =
-    let f : Geometry = format_geometry format in
+    let f : Geometry = geometry_of format in
     let s : EncoderState = r.state in
     let due : Bool = is_key_due s.reference s.since_key rates.gop in
     let qp : ℕ = cond due rates.iqp rates.pqp in
@@ -174,7 +174,7 @@ is_next format rates raw area shown out mid r g number key header body legal pic
     }
 
 -- a raw picture has as many bytes as its planes have samples
-pub format_total : (format : Format) → IsRawFormat format → picture_total (format_geometry format) ≡ format.size
+pub format_total : (format : Format) → IsRawFormat format → picture_total (geometry_of format) ≡ format.size
 format_total format h = raw_total format.fourcc format.width format.height h.0 ∙ sym h.1
 
 -- the number of frames since the last I frame stays below the longest GOP
@@ -188,8 +188,8 @@ key_small (Some r) since gop h = by_test (nat_le gop since) refl
 
 -- What an encoder found in a reference, wrote, and leaves there: the next frame and the state after it.
 pub next_is : (format : Format) (rates : RunRates) (raw area bytes shown out mid : List ℕ) (geometry : Option Geometry) (number : Option ℕ) (since_key since_reset : ℕ) (r : CodecReference) (g : Geometry) (key : Bool) (coding : Coding) (body : Body) (header : Header) →
-    IsRawFormat format → g ≡ format_geometry format → bytes ≡ area → reference_of area geometry number since_key since_reset ≡ r → key ≡ is_key_due r.state.reference r.state.since_key rates.gop → coding.inter ≡ not key → coding.qp ≡ cond key rates.iqp rates.pqp →
-    HasGeometry (format_geometry format) r.state.reference → since_reset < 2048 → 44 + padded_sum (format_geometry format) ≤ length out → length shown ≡ length bytes →
+    IsRawFormat format → g ≡ geometry_of format → bytes ≡ area → reference_of area geometry number since_key since_reset ≡ r → key ≡ is_key_due r.state.reference r.state.since_key rates.gop → coding.inter ≡ not key → coding.qp ≡ cond key rates.iqp rates.pqp →
+    HasGeometry (geometry_of format) r.state.reference → since_reset < 2048 → 44 + padded_sum (geometry_of format) ≤ length out → length shown ≡ length bytes →
     IsPicture g (planes_of format.fourcc g.width g.height raw) →
     AreWritten (written_planes coding.inter coding.qp (plane_shapes g) (planes_of format.fourcc g.width g.height raw) (cut_into (plane_shapes g) bytes)) (picture_total g) bytes shown out mid 44 body →
     header ≡ record { geometry = g; key = key; raw = body.raw; colour = 0 ∷ 0 ∷ 0 ∷ 0 ∷ []; size = body.end - 44; number = Some since_reset } →
@@ -204,8 +204,8 @@ next_is format rates raw area bytes shown out mid geometry number since_key sinc
 
 -- The next frame is no longer than a header and the longest body.
 pub next_small : (format : Format) (rates : RunRates) (raw area bytes shown out mid : List ℕ) (geometry : Option Geometry) (number : Option ℕ) (since_key since_reset : ℕ) (r : CodecReference) (g : Geometry) (key : Bool) (coding : Coding) (body : Body) →
-    IsRawFormat format → g ≡ format_geometry format → bytes ≡ area → reference_of area geometry number since_key since_reset ≡ r → key ≡ is_key_due r.state.reference r.state.since_key rates.gop → coding.inter ≡ not key → coding.qp ≡ cond key rates.iqp rates.pqp →
-    HasGeometry (format_geometry format) r.state.reference → since_reset < 2048 →
+    IsRawFormat format → g ≡ geometry_of format → bytes ≡ area → reference_of area geometry number since_key since_reset ≡ r → key ≡ is_key_due r.state.reference r.state.since_key rates.gop → coding.inter ≡ not key → coding.qp ≡ cond key rates.iqp rates.pqp →
+    HasGeometry (geometry_of format) r.state.reference → since_reset < 2048 →
     IsPicture g (planes_of format.fourcc g.width g.height raw) →
     AreWritten (written_planes coding.inter coding.qp (plane_shapes g) (planes_of format.fourcc g.width g.height raw) (cut_into (plane_shapes g) bytes)) (picture_total g) bytes shown out mid 44 body →
     body.end ≤ 17694764

@@ -7,11 +7,10 @@ use Rattle.vc_defs.specs.declared.Geometry.{Geometry}
 use Rattle.vc_defs.specs.declared.Header.{Header}
 use Rattle.vc_defs.specs.Headers.{most_bytes, header_from}
 use Rattle.vc_defs.specs.Bodies.{IsPicture}
-use Rattle.vc_defs.specs.Raw.{raw_of}
+use Rattle.vc_defs.specs.Raw.{raw_of, geometry_of}
 use Rattle.vc_defs.specs.Decoder.{ReferenceState, frame_planes}
 use Rattle.vc_defs.specs.Encoder.{RunRates, EncoderState, encode}
 use Rattle.vc_defs.specs.Laws.{IsRawFormat, IsEncoderState}
-use Rattle.vc_work.specs.Runs.{format_geometry}
 use Rattle.vc_frame.specs.Frames.{picture_of}
 
 -- the next frame has the number after that of the reference, where there is one
@@ -27,8 +26,8 @@ IsFollowed g s = IsEncoderState g s × CountsOn s.reference s.since_reset
 -- first 44 bytes, and the rest gives it exactly the encoder's new reference. So it is with the frame after it.
 abbrev pub FramesComeBack : Type 0
 FramesComeBack = (s : EncoderState) (format : Format) (rates : RunRates) (planes : List (List ℕ)) →
-    IsRawFormat format → IsPicture (format_geometry format) planes → IsFollowed (format_geometry format) s →
+    IsRawFormat format → IsPicture (geometry_of format) planes → IsFollowed (geometry_of format) s →
     let frame = encode s format rates (raw_of format.fourcc planes) in
     (h : Header) × ((header_from most_bytes (take 44 frame.bytes) ≡ Some h)
     × (picture_of h (frame_planes h s.reference (drop 44 frame.bytes)) ≡ frame.state.reference)
-    × IsFollowed (format_geometry format) frame.state)
+    × IsFollowed (geometry_of format) frame.state)

@@ -3,11 +3,11 @@
 ghost use Rattle.std.specs.Prelude.{◌≡◌, ◌≤◌, ◌+◌, ◌-◌, ◌∷◌, [], length, true, not, if◌then◌else◌};
 ghost use Rattle.vc_defs.specs.Headers.{is_legal, header_bytes, most_bytes};
 ghost use Rattle.vc_defs.specs.Bodies.{IsPicture, plane_shapes, padded_sum};
-ghost use Rattle.vc_defs.specs.Raw.{cut_into, planes_of};
+ghost use Rattle.vc_defs.specs.Raw.{cut_into, planes_of, geometry_of};
 ghost use Rattle.vc_defs.specs.Encoder.{is_key_due, written_planes, encode};
 ghost use Rattle.vc_defs.specs.Laws.{IsRawFormat, AreRates};
 ghost use Rattle.vc_work.specs.References.{picture_total};
-ghost use Rattle.vc_work.specs.Runs.{HasGeometry, format_geometry, run_rates, with_state, put_over};
+ghost use Rattle.vc_work.specs.Runs.{HasGeometry, run_rates, with_state, put_over};
 ghost use Rattle.vc_frame.specs.Order.{IsRawOf};
 ghost use Rattle.vc_frame.specs.Planes.{AreWritten};
 
@@ -78,8 +78,8 @@ fn count_on(since_key: u32, key: bool) -> u32
 }
 
 /// The geometry of a raw format's pictures.
-fn geometry_of(format: &Format) -> Geometry
-    ensures { result ≡ format_geometry format.now }
+fn geometry_in(format: &Format) -> Geometry
+    ensures { result ≡ geometry_of format.now }
 {
     Geometry {
         width: format.width,
@@ -135,16 +135,16 @@ pub fn encode_frame<T: Transform>(
     requires whole { length raw.now ≡ format.now.size }
     requires rates { AreRates (run_rates rates.now) }
     requires area { format.now.size ≤ reference.old.size }
-    requires same { HasGeometry (format_geometry format.now) reference.old.state.reference }
-    requires room { 44 + padded_sum (format_geometry format.now) ≤ length out.old }
+    requires same { HasGeometry (geometry_of format.now) reference.old.state.reference }
+    requires room { 44 + padded_sum (geometry_of format.now) ≤ length out.old }
     ensures frame { out.new ≡ put_over (encode reference.old.state format.now (run_rates rates.now) raw.now).bytes out.old }
     ensures length { result.0 ≡ length (encode reference.old.state format.now (run_rates rates.now) raw.now).bytes }
     ensures most { result.0 ≤ 17694764 }
     ensures key { result.1 ≡ (encode reference.old.state format.now (run_rates rates.now) raw.now).key }
     ensures state { reference.new ≡ with_state (encode reference.old.state format.now (run_rates rates.now) raw.now).state reference.old }
-    ensures same { HasGeometry (format_geometry format.now) reference.new.state.reference }
+    ensures same { HasGeometry (geometry_of format.now) reference.new.state.reference }
 {
-    let geometry = geometry_of(format);
+    let geometry = geometry_in(format);
     let key = is_key_due(reference, rates.gop);
     let coding = coding_of(key, rates);
     let body = write_body(

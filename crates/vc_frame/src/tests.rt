@@ -3,11 +3,11 @@
 ghost use Rattle.std.specs.Prelude.{◌≡◌, ◌≤◌, true, IfOk};
 ghost use Rattle.vc_defs.specs.Headers.{is_legal, is_legal_number, most_bytes};
 ghost use Rattle.vc_defs.specs.Laws.{IsRawFormat};
-ghost use Rattle.vc_defs.specs.Raw.{grey};
+ghost use Rattle.vc_defs.specs.Raw.{grey, geometry_of};
 ghost use Rattle.vc_defs.specs.Bodies.{padded_sum};
 ghost use Rattle.vc_defs.specs.Encoder.{fresh_encoder};
 ghost use Rattle.vc_work.specs.References.{picture_total};
-ghost use Rattle.vc_work.specs.Runs.{HasGeometry, format_geometry};
+ghost use Rattle.vc_work.specs.Runs.{HasGeometry};
 
 use super::*;
 use std::test::Fail;
@@ -74,9 +74,9 @@ fn becomes(
 ) -> bool
     requires iqp { (1 ≤ iqp) × (iqp ≤ 31) }
     requires area { 256 ≤ reference.old.size }
-    requires same { HasGeometry (format_geometry (record { fourcc = grey; width = 16; height = 16; size = 256 })) reference.old.state.reference }
+    requires same { HasGeometry (geometry_of (record { fourcc = grey; width = 16; height = 16; size = 256 })) reference.old.state.reference }
     ensures area { reference.new.size ≡ reference.old.size }
-    ensures same { HasGeometry (format_geometry (record { fourcc = grey; width = 16; height = 16; size = 256 })) reference.new.state.reference }
+    ensures same { HasGeometry (geometry_of (record { fourcc = grey; width = 16; height = 16; size = 256 })) reference.new.state.reference }
 {
     let mut out = [0; 300];
     let (end, key) = encode_frame(
@@ -214,7 +214,7 @@ fn comes_back(
     decoder: &mut Reference,
 ) -> bool
     requires raw { IsRawFormat (record { fourcc = fourcc; width = 16; height = 16; size = size }) }
-    requires geometry { geometry.now ≡ format_geometry (record { fourcc = fourcc; width = 16; height = 16; size = size }) }
+    requires geometry { geometry.now ≡ geometry_of (record { fourcc = fourcc; width = 16; height = 16; size = size }) }
     requires total { picture_total geometry.now ≤ 512 }
     requires padded { padded_sum geometry.now ≤ 512 }
     requires encoder { encoder.old ≡ record { size = 512; state = fresh_encoder } }

@@ -13,6 +13,7 @@ use Rattle.vc_base.specs.Buffers.{Buffer}
 use Rattle.vc_defs.specs.declared.Geometry.{Geometry}
 use Rattle.vc_defs.specs.Encoder.{RunRates, EncoderState, fresh_encoder, Encoded, encoded_bytes, next_encoded, encoder_after, encoded_after, EncodedFrame, encode}
 use Rattle.vc_defs.specs.Encoder.{encoded as all_encoded}
+use Rattle.vc_defs.specs.Raw.{geometry_of}
 use Rattle.vc_model.specs.Coder.{CodecState, encoder, reset, the_coder}
 use Rattle.vc_model.specs.Context.{Context, Slot, Running, fresh_context, is_dec, is_enc}
 use Rattle.vc_model.specs.Answer.{answer, closed_answer}
@@ -20,7 +21,7 @@ use Rattle.vc_model.specs.Runs.{sort_of, source_of, JobData, job_data, RunResult
 use Rattle.vc_model.specs.Solo.{SoloEvent, Called, Claims, Finishes, SoloReply, Answered, Finished, solo_step, solo_slot}
 use Rattle.vc_model.specs.Sound.{IsOrderedSlot}
 use Rattle.vc_laws.specs.Segments.{EncodedPicture, Segment, fresh_segment, call_resets, call_adds, after_run, segment_of_step, segment_of_slots, segment_step, segment_of}
-use Rattle.vc_laws.specs.Following.{geometry_of, coded_picture, EncoderFollows}
+use Rattle.vc_laws.specs.Following.{coded_picture, EncoderFollows}
 use Rattle.vc_laws.proofs.Effects.{CodecAfterFormat, CodecAfterBuffers, CodecAfterOutput, CodecAfterCapture, Settles, still, owes, gives, Effect, stays, closes, has_events, has_rates, has_out_format, has_cap_format, has_out_buffers, has_cap_buffers, adds_out, adds_cap, queues_out, queues_cap, takes_out, takes_cap, takes_last, streams_out, streams_cap, stops_out, stops_cap, rests_cap, sets_mark, starts}
 use Rattle.vc_laws.proofs.Steps.{HasJob, Puts, puts_fault, puts_copy, puts_frame, puts_picture, puts_damage, Ends, alone, kept, ended, halts, spends, Step, calls, rests, lacks_job, claims, finishes, faults, step_of}
 use Rattle.vc_laws.proofs.Tidy.{IsTidy, IsRunOf, HasRun, TidySlot, KindSlot, step_kind, same_out_format}

@@ -6,8 +6,7 @@ use Rattle.std.specs.List.{filter, All}
 use Rattle.vc_base.specs.declared.Kind.TheVariants.{Enc, Dec}
 use Rattle.vc_base.specs.declared.Format.{Format}
 use Rattle.vc_base.specs.Buffers.{Buffer, last_flag, error_flag, zero_stamp}
-use Rattle.vc_defs.specs.declared.Geometry.{Geometry}
-use Rattle.vc_defs.specs.Raw.{layout_of, planes_of, raw_of}
+use Rattle.vc_defs.specs.Raw.{geometry_of, planes_of, raw_of}
 use Rattle.vc_defs.specs.Decoder.{FrameResult, ResultKind, Picture, Damaged, Changed, results}
 use Rattle.vc_defs.specs.Encoder.{RunRates, Encoded, encoded, encoded_bytes}
 use Rattle.vc_model.specs.Coder.{Coder, the_coder}
@@ -59,10 +58,6 @@ SegmentsBegin =
     (events : List SoloEvent) (c : Context) → solo_slot the_coder None events ≡ Some c → c.kind ≡ Dec → (segment_of the_coder events).first ≡ None → IsWithoutRun (segment_of the_coder events)
 
 -- Encoders
-
--- the geometry of raw pictures of a format
-abbrev pub geometry_of : Format → Geometry
-geometry_of format = record { width = format.width; height = format.height; layout = layout_of format.fourcc }
 
 -- the planes and rates of a picture
 abbrev pub coded_picture : EncodedPicture → List (List ℕ) × RunRates

@@ -4,7 +4,7 @@ use Rattle.std.specs.Option.{option_map}
 use Rattle.vc_base.specs.declared.Format.{Format}
 use Rattle.vc_defs.specs.declared.Geometry.{Geometry}
 use Rattle.vc_defs.specs.Bodies.{padded_sum}
-use Rattle.vc_defs.specs.Raw.{layout_of}
+use Rattle.vc_defs.specs.Raw.{geometry_of}
 use Rattle.vc_defs.specs.Headers.{is_legal_geometry}
 use Rattle.vc_defs.specs.Decoder.{ReferenceState, DecoderState, DecodedStep, DecodedResult, picture, damaged, changed, spent, decode, step_outcome}
 use Rattle.vc_defs.specs.Encoder.{RunRates, EncoderState, EncodedFrame, encode, fresh_encoder}
@@ -23,10 +23,6 @@ use Rattle.vc_work.specs.declared.engine.Outcome.TheVariants.{Copied, Encoded, P
 abbrev pub dest_bytes : Work → Option (List ℕ)
 dest_bytes w = option_map (λ v. v.items) w.dest
 
--- the geometry of the pictures of a raw format
-abbrev pub format_geometry : Format → Geometry
-format_geometry f = record { width = f.width; height = f.height; layout = layout_of f.fourcc }
-
 -- the rates of a run
 abbrev pub run_rates : Rates → RunRates
 run_rates r = record { gop = r.gop; iqp = r.iqp; pqp = r.pqp }
@@ -44,14 +40,14 @@ HasGeometry g (Some r) = r.geometry ≡ g
 -- the reference is there, has room for a picture of the format, and its own, where it has one, is of the format
 abbrev pub HasReference : Format → Option CodecReference → Type 0
 HasReference format None = ⊥
-HasReference format (Some r) = (format.size ≤ r.size) × HasGeometry (format_geometry format) r.state.reference
+HasReference format (Some r) = (format.size ≤ r.size) × HasGeometry (geometry_of format) r.state.reference
 
 -- what an encode run needs: a whole picture of a raw format, room for every frame that it can become, a reference, and
 -- rates in range
 pub record HasPicture (w : Work) : Type 0 where
   pub format : IsRawFormat w.format
   pub whole : w.source.used ≡ w.format.size
-  pub dest : HasDest (44 + padded_sum (format_geometry w.format)) (dest_bytes w)
+  pub dest : HasDest (44 + padded_sum (geometry_of w.format)) (dest_bytes w)
   pub reference : HasReference w.format w.reference
   pub rates : AreRates (run_rates w.rates)
 
@@ -65,7 +61,7 @@ HasArea least (Some r) = least ≤ r.size
 pub record HasFrames (w : Work) : Type 0 where
   pub cursor : w.source.cursor ≤ w.source.used
   pub format : IsRawFormat w.format
-  pub geometry : w.geometry ≡ Some (format_geometry w.format)
+  pub geometry : w.geometry ≡ Some (geometry_of w.format)
   pub dest : HasDest w.format.size (dest_bytes w)
   pub reference : HasArea w.format.size w.reference
   pub stream : HasStream w.limit w.geometry (picture_of w.reference) w.assembly

@@ -1,6 +1,6 @@
 use Rattle.std.proofs.Common.{◌≡◌, vec_len}
-use Rattle.vc_defs.specs.Raw.{yu12}
-use Rattle.vc_work.specs.Runs.{HasGeometry, format_geometry}
+use Rattle.vc_defs.specs.Raw.{yu12, geometry_of}
+use Rattle.vc_work.specs.Runs.{HasGeometry}
 use Rattle.pipeline_rows.proofs.alone.code_all.Given as goal
 
 abbrev pub invariant-loop-number : goal.invariant-loop-number
@@ -8,5 +8,5 @@ invariant-loop-number l = record {
   picture : vec_len l.picture ≡ 152064;
   frame : vec_len l.frame ≡ 152108;
   size : l.reference.size ≡ 152064;
-  same : HasGeometry (format_geometry (record { fourcc = yu12; width = 352; height = 288; size = 152064 })) l.reference.state.reference;
+  same : HasGeometry (geometry_of (record { fourcc = yu12; width = 352; height = 288; size = 152064 })) l.reference.state.reference;
 }
