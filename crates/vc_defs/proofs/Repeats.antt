@@ -1,11 +1,12 @@
 -- What an encoder writes for many blocks that are all the same.
 use Rattle.std.proofs.Common.{◌≡◌, ◌∙◌, sym, ap, refl, ℕ, suc, zero, ◌+◌, ◌≤◌, ◌<◌, List, [], ◌∷◌, ◌++◌, replicate, arith}
-use Rattle.std.specs.Prelude.{true, false, pos, nat_lt, ◌&&◌}
+use Rattle.std.specs.Prelude.{true, nat_lt, ◌&&◌}
 use Rattle.std.proofs.lemmas.Bool.{and_from, cond-true}
 use Rattle.std.proofs.lemmas.Bool.Decides.{nat_tests}
 use Rattle.std.proofs.lemmas.List.{replicate-append-replicate, append-nil}
 use Rattle.vc_defs.specs.Words.{canon, in_scan_order, scan_place}
 use Rattle.vc_defs.specs.Planes.{Block, same_block, canon_entry, entries_after, entries_bytes, canon_plane}
+use Rattle.vc_defs.specs.Rows.{zero_block}
 
 -- blocks like the one before are counted as its repeats, up to 4,095
 counted : (b : Block) (n r : ℕ) (rest : List Block) → same_block b b ≡ true → r + n ≤ 4095 → entries_after b r (replicate n b ++ rest) ≡ entries_after b (r + n) rest
@@ -18,18 +19,14 @@ counted b (suc n) r rest same h =
     ∙ counted b n (r + 1) rest same (omega arith)
     ∙ ap (λ k. entries_after b k rest) e
 
-pub repeated : (b : Block) (n : ℕ) (rest : List Block) → same_block b b ≡ true → n ≤ 4095 → canon_plane (replicate (suc n) b ++ rest) ≡ entries_bytes (entries_after b n rest)
+repeated : (b : Block) (n : ℕ) (rest : List Block) → same_block b b ≡ true → n ≤ 4095 → canon_plane (replicate (suc n) b ++ rest) ≡ entries_bytes (entries_after b n rest)
 unfolding canon_plane
 repeated b n rest same h = let e : 0 + n ≡ n = omega arith in ap entries_bytes (counted b n 0 rest same (omega arith) ∙ ap (λ k. entries_after b k rest) e)
 
--- a block of I whose values are all 0
-abbrev zeros : Block
-zeros = record { inter = false; values = replicate 64 (pos 0) }
-
-most_repeats : canon_plane (replicate 4096 zeros) ≡ 0x1f ∷ 0xfe ∷ 0x00 ∷ 0x0f ∷ []
+pub most_repeats : canon_plane (replicate 4096 zero_block) ≡ 0x1f ∷ 0xfe ∷ 0x00 ∷ 0x0f ∷ []
 unfolding canon in_scan_order scan_place
-most_repeats = ap canon_plane (sym (append-nil (replicate 4096 zeros))) ∙ repeated zeros 4095 [] refl (omega arith)
+most_repeats = ap canon_plane (sym (append-nil (replicate 4096 zero_block))) ∙ repeated zero_block 4095 [] refl (omega arith)
 
-past_the_most_repeats : canon_plane (replicate 4097 zeros) ≡ 0x1f ∷ 0xfe ∷ 0x00 ∷ 0x0f ∷ 0x00 ∷ 0x00 ∷ 0x00 ∷ 0x0f ∷ []
+pub one_block_more : canon_plane (replicate 4097 zero_block) ≡ 0x1f ∷ 0xfe ∷ 0x00 ∷ 0x0f ∷ 0x00 ∷ 0x00 ∷ 0x00 ∷ 0x0f ∷ []
 unfolding canon in_scan_order scan_place
-past_the_most_repeats = ap canon_plane (sym (replicate-append-replicate 4096 1 zeros)) ∙ repeated zeros 4095 (replicate 1 zeros) refl (omega arith)
+one_block_more = ap canon_plane (sym (replicate-append-replicate 4096 1 zero_block)) ∙ repeated zero_block 4095 (replicate 1 zero_block) refl (omega arith)
