@@ -23,12 +23,11 @@ pub mod laws;
 
 use std::alloc::Global;
 use std::marker::Model;
+use bitflags::Flags;
+use vc_base::flags::BufFlags;
 use vc_base::{Errno, Reply, Side, Stamp};
 use vc_queue::hold::Hold;
 use vc_queue::queue::{Lent, Queue};
-
-/// The flag of the last buffer before a stop.
-const LAST: u32 = 0x100000;
 
 /// Whether jobs may run, and where a stop stands.
 #[derive(Clone, Copy, Debug, PartialEq, Eq)]
@@ -279,7 +278,7 @@ impl Pair {
             self.cap.retire(lent, used, flags, stamp);
             return false;
         }
-        self.cap.retire(lent, used, flags | LAST, stamp);
+        self.cap.retire(lent, used, flags | BufFlags::LAST.bits(), stamp);
         self.phase = Phase::Last;
         self.by_change = false;
         true
@@ -344,7 +343,7 @@ impl Pair {
             return false;
         }
         let lent = self.cap.lend();
-        self.cap.retire(lent, 0, LAST, Stamp(0));
+        self.cap.retire(lent, 0, BufFlags::LAST.bits(), Stamp(0));
         self.phase = Phase::Last;
         !self.by_change
     }
