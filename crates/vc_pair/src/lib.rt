@@ -21,9 +21,9 @@ ghost use Rattle.vc_pair.specs.Phases.{phase_alone, phase_of};
 
 pub mod laws;
 
+use bitflags::Flags;
 use std::alloc::Global;
 use std::marker::Model;
-use bitflags::Flags;
 use vc_base::flags::BufFlags;
 use vc_base::{Errno, Reply, Side, Stamp};
 use vc_queue::hold::Hold;
@@ -278,7 +278,8 @@ impl Pair {
             self.cap.retire(lent, used, flags, stamp);
             return false;
         }
-        self.cap.retire(lent, used, flags | BufFlags::LAST.bits(), stamp);
+        self.cap
+            .retire(lent, used, flags | BufFlags::LAST.bits(), stamp);
         self.phase = Phase::Last;
         self.by_change = false;
         true
