@@ -20,8 +20,10 @@ ghost use Rattle.vc_context.specs.Payloads.{FitsContext, Moves, handed_over};
 ghost use Rattle.vc_context.specs.Works.{IsWork, IsWorkWith, RunsIn, RunsInWith, IsBack, IsBackOf};
 ghost use Rattle.vc_core.specs.Copying.{data_bytes, data_formats, IsGiven, brought_used, brought_flags};
 
+use bitflags::Flags;
 use std::alloc::Global;
 use std::marker::Model;
+use vc_base::flags::BufFlags;
 use vc_base::{Call, Errno, Format, Fourcc, Reply, Side, Stamp};
 use vc_context::jobs::{dest_back, dest_of, source_back, source_of};
 use vc_context::refusals::{create_refusal, has_work, reqbufs_refusal};
@@ -38,9 +40,6 @@ const USUAL_SIZE: u32 = 4096;
 
 /// The greatest size of a buffer.
 const GREATEST_SIZE: u32 = 17694720;
-
-/// The flag of a buffer that came back without its result.
-const ERROR: u32 = 0x40;
 
 /// A copying context: the size of its buffers, its queues, whether a job of it runs, and the indices of the
 /// two buffers in the job.
@@ -99,7 +98,7 @@ fn brought(outcome: &Result<Outcome, EngineFault>) -> (u32, u32)
 {
     match *outcome {
         Ok(Outcome::Copied { used }) => (used, 0),
-        _ => (0, ERROR),
+        _ => (0, BufFlags::ERROR.bits()),
     }
 }
 

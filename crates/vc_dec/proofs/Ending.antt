@@ -9,9 +9,10 @@ use Rattle.vc_defs.specs.Decoder.{DecoderState}
 use Rattle.vc_model.specs.Formats.{FormatPair, formats_found}
 use Rattle.vc_model.specs.Context.{Context, PhaseState, run, owe, last, stopped, drain, change, is_run, is_drained, has_before, settle}
 use Rattle.vc_model.specs.Runs.{dest_done, dest_back, stop_by_change}
+use Rattle.vc_model.specs.Sound.{last_not_given}
 use Rattle.vc_queue.specs.declared.queue.Lent.{Lent}
 use Rattle.vc_queue.specs.Lending.{back_bytes}
-use Rattle.vc_pair.specs.Pairs.{PairState, IsSettled, is_held_back, cap_retired, is_final, is_due, pair_changed, pair_settled, raises_end, owes_last, gives_end}
+use Rattle.vc_pair.specs.Pairs.{PairState, IsSettled, cap_retired, is_final, is_due, pair_changed, pair_settled, raises_end, owes_last, gives_end}
 use Rattle.vc_pair.specs.Rows.{IsRunFlag, JobsAgree, ended_if, with_pair}
 use Rattle.vc_pair.proofs.Rows.{same_settled, same_retired, same_change}
 use Rattle.vc_pair.proofs.Settling.{settled_alone, settled_quiet}
@@ -37,7 +38,7 @@ no_owing true true false d e = refl
 no_owing true false c d e = refl
 no_owing false b c d e = refl
 
-held_run : (phase : PhaseState) → phase ≡ run → (b : Bool) → (cap : QueueState) → is_held_back phase cap.ready ≡ false
+held_run : (phase : PhaseState) → phase ≡ run → (b : Bool) → (cap : QueueState) → last_not_given phase cap.ready ≡ false
 held_run run e b cap = refl
 held_run (owe cause) e b cap = cc
 held_run (last cause) e b cap = refl

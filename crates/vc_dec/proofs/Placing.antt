@@ -7,9 +7,9 @@ use Rattle.vc_base.specs.declared.Kind.TheVariants.{Dec}
 use Rattle.vc_base.specs.declared.Call.{Call}
 use Rattle.vc_base.specs.declared.Call.TheVariants.{Open}
 use Rattle.vc_base.specs.Buffers.{Buffer, is_empty, without_bytes}
-use Rattle.vc_model.specs.Context.{Context, Slot, Running, PhaseState, run, owe, last, stopped, is_run, is_drained, fresh_context}
+use Rattle.vc_model.specs.Context.{Context, Slot, Running, is_run, is_drained, fresh_context}
 use Rattle.vc_model.specs.Answer.{Answer, answer, closed_answer, context_answer}
-use Rattle.vc_model.specs.Sound.{HasItsBuffers, IsOrdered, IsOrderedSlot, IsSoundButUnsettled, IsSettled as IsSettledContext, last_not_given, CountsUp, CountsUpToNext}
+use Rattle.vc_model.specs.Sound.{HasItsBuffers, IsOrdered, IsOrderedSlot, IsSoundButUnsettled, IsSettled as IsSettledContext, CountsUp, CountsUpToNext}
 use Rattle.vc_model.specs.Standing.{some_job, without_job, without_data_of, core_answer}
 use Rattle.vc_model.proofs.Answering.{answer_sound}
 use Rattle.vc_model.specs.Coder.{the_coder}
@@ -17,7 +17,7 @@ use Rattle.vc_model.specs.Runs.{is_claimable, after_claim}
 use Rattle.vc_model.specs.Solo.{Claims, claim_step, solo_step}
 use Rattle.vc_model.proofs.Ending.{step_sound}
 use Rattle.vc_model.proofs.Hiding.{answers_without_job, without_none}
-use Rattle.vc_pair.specs.Pairs.{IsSettled, is_held_back}
+use Rattle.vc_pair.specs.Pairs.{IsSettled}
 use Rattle.vc_pair.specs.Rows.{pair_of, JobsAgree}
 use Rattle.vc_dec.specs.Decoders.{IsPlaced}
 
@@ -59,12 +59,6 @@ agrees c p =
 
 -- nothing is left to be settled
 
-held_back : (phase : PhaseState) (ready : List Buffer) → is_held_back phase ready ≡ last_not_given phase ready
-held_back run ready = refl
-held_back (owe cause) ready = refl
-held_back (last cause) ready = refl
-held_back (stopped cause) ready = refl
-
 never_noted : (a b : Bool) → (a && (b && false)) ≡ false
 never_noted true true = refl
 never_noted true false = refl
@@ -74,12 +68,12 @@ whole_settled : (w : Context) (o : Option Running) → w.running ≡ o → HasIt
 whole_settled w None e h s =
     record {
       noted = ap (λ b. is_run w.phase && (w.cap.streams && (b && is_drained w.out.ready w.mark))) (sym (whole_agrees w None e h)) ∙ s.noted;
-      given = held_back w.phase w.cap.ready ∙ s.given;
+      given = s.given;
     }
 whole_settled w (Some r) e h s =
     record {
       noted = ap (λ b. is_run w.phase && (w.cap.streams && (b && is_drained w.out.ready w.mark))) (sym (whole_agrees w (Some r) e h)) ∙ never_noted (is_run w.phase) w.cap.streams;
-      given = held_back w.phase w.cap.ready ∙ s.given;
+      given = s.given;
     }
 
 pub settled : (c : Context) → IsPlaced c → IsSettled (pair_of c)

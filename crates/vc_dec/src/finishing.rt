@@ -22,6 +22,8 @@ ghost use Rattle.vc_dec.specs.Ends.{end_of, source_put, dest_put, IsDestBack, de
 use crate::codec::Codec;
 use crate::settling::{raise_end, settle};
 use crate::{Decoder, Dest};
+use bitflags::Flags;
+use vc_base::flags::BufFlags;
 use vc_base::{Side, Stamp};
 use vc_context::jobs::{dest_back, source_back};
 use vc_defs::Geometry;
@@ -30,15 +32,6 @@ use vc_geom::{Formats, formats_found};
 use vc_pair::Pair;
 use vc_queue::queue::Lent;
 use vc_work::{EngineFault, Outcome, Work};
-
-/// The flag of a buffer with the picture of an I frame.
-const KEYFRAME: u32 = 0x8;
-
-/// The flag of a buffer with the picture of a P frame.
-const PFRAME: u32 = 0x10;
-
-/// The flag of a buffer that came back without its result.
-const ERROR: u32 = 0x40;
 
 /// The type of the event at a change of the stream.
 const SOURCE_CHANGE: u32 = 5;
@@ -73,7 +66,12 @@ struct RunEnd {
 fn type_flag(key: bool) -> u32
     ensures { result ≡ type_flag key }
 {
-    if key { KEYFRAME } else { PFRAME }
+    let flag = if key {
+        BufFlags::KEYFRAME
+    } else {
+        BufFlags::PFRAME
+    };
+    flag.bits()
 }
 
 /// What a destination has that comes back without its picture.
@@ -82,7 +80,7 @@ fn no_picture(stamp: Stamp) -> Shown
 {
     Shown {
         used: 0,
-        flags: ERROR,
+        flags: BufFlags::ERROR.bits(),
         stamp,
     }
 }
@@ -93,7 +91,7 @@ fn given_up(queued: Stamp) -> RunEnd
 {
     RunEnd {
         used_up: true,
-        source_flags: ERROR,
+        source_flags: BufFlags::ERROR.bits(),
         shown: Some(no_picture(queued)),
         changed: None,
         fault: true,

@@ -16,7 +16,7 @@ use Rattle.vc_model.specs.Formats.{FormatPair, frame_room}
 use Rattle.vc_model.specs.Context.{Context, PhaseState, run, owe, last, stopped, is_run, is_drained, encode}
 use Rattle.vc_model.specs.Core.{claimed_in}
 use Rattle.vc_model.specs.Runs.{JobData, is_claimable, after_claim, claim_front, running_of, job_data, source_of}
-use Rattle.vc_model.specs.Sound.{AreLong}
+use Rattle.vc_model.specs.Sound.{AreLong, last_not_given}
 use Rattle.vc_model.specs.Standing.{without_job, job_in}
 use Rattle.vc_queue.specs.declared.queue.Lent.{Lent}
 use Rattle.vc_queue.specs.Holds.{HoldState}
@@ -26,7 +26,7 @@ use Rattle.vc_work.specs.declared.work.Rates.{Rates}
 use Rattle.vc_work.specs.declared.work.Work.{Work}
 use Rattle.vc_work.specs.References.{CodecReference}
 use Rattle.vc_work.specs.Runs.{HasReference, run_rates}
-use Rattle.vc_pair.specs.Pairs.{PairState, owes_last, is_held_back, queue_at, with_queue_at}
+use Rattle.vc_pair.specs.Pairs.{PairState, owes_last, queue_at, with_queue_at}
 use Rattle.vc_context.specs.Contexts.{AreFilled, has_work, IsKept, IsStep}
 use Rattle.vc_context.specs.Payloads.{FitsContext}
 use Rattle.vc_context.specs.Works.{IsDest, IsWork, IsWorkWith, RunsIn, RunsInWith}
@@ -143,7 +143,7 @@ not_owed p e = rw e (by (is_run p.phase) p.cap.streams (is_empty p.cap.job) (is_
     by true false c d = refl
     by false s c d = refl
 
-pub held_run : (phase : PhaseState) (ready : List Buffer) → phase ≡ run → is_held_back phase ready ≡ false
+pub held_run : (phase : PhaseState) (ready : List Buffer) → phase ≡ run → last_not_given phase ready ≡ false
 held_run run ready e = refl
 held_run (owe cause) ready e = cc
 held_run (last cause) ready e = refl

@@ -16,6 +16,8 @@ ghost use Rattle.vc_enc.specs.Works.{IsGiven, CanEncode, end_of};
 use crate::settling::raise_end;
 use crate::streaming::begin_anew_where;
 use crate::{Encoder, InJob};
+use bitflags::Flags;
+use vc_base::flags::BufFlags;
 use vc_base::{Format, Side};
 use vc_context::jobs::{dest_back, dest_of, source_back, source_of};
 use vc_context::refusals::has_work;
@@ -23,15 +25,6 @@ use vc_ctrl::Controls;
 use vc_pair::{Pair, Phase};
 use vc_queue::queue::Lent;
 use vc_work::{EngineFault, Outcome, Rates, Reference, Sort, Work};
-
-/// The flag of a buffer with an I frame.
-const KEYFRAME: u32 = 0x8;
-
-/// The flag of a buffer with a P frame.
-const PFRAME: u32 = 0x10;
-
-/// The flag of a buffer that came back without its result.
-const ERROR: u32 = 0x40;
 
 /// What a run that came to its end, or was given up, leaves of its buffers.
 #[derive(Clone, Copy, Debug, PartialEq, Eq)]
@@ -52,13 +45,17 @@ fn end_of(outcome: &Result<Outcome, EngineFault>) -> RunEnd
         Ok(Outcome::Encoded { used, key }) => RunEnd {
             used,
             source_flags: 0,
-            dest_flags: if key { KEYFRAME } else { PFRAME },
+            dest_flags: if key {
+                BufFlags::KEYFRAME.bits()
+            } else {
+                BufFlags::PFRAME.bits()
+            },
             fault: false,
         },
         _ => RunEnd {
             used: 0,
-            source_flags: ERROR,
-            dest_flags: ERROR,
+            source_flags: BufFlags::ERROR.bits(),
+            dest_flags: BufFlags::ERROR.bits(),
             fault: true,
         },
     }

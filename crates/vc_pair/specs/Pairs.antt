@@ -8,6 +8,7 @@ use Rattle.vc_base.specs.declared.Errno.TheVariants.{Busy, Inval}
 use Rattle.vc_base.specs.Buffers.{Buffer, QueueState, new_queue, is_empty, refuse_if, dqbuf_after, streamoff_after, long_enough, lend_after, retire_after, last_flag, zero_stamp}
 use Rattle.vc_model.specs.Context.{Cause, drain, change, PhaseState, run, owe, last, stopped, is_run, is_stopped, is_drain, is_drained}
 use Rattle.vc_model.specs.Answer.{without_drain_stop, mark_after_restart, is_stopped_by_drain, start_is_early}
+use Rattle.vc_model.specs.Sound.{last_not_given}
 use Rattle.vc_queue.specs.Holds.{HoldState, Fits}
 
 -- The queues, the phase and the mark of a context.
@@ -109,12 +110,6 @@ owes_last p =
 abbrev pub owing : PairState → PairState
 owing p = if owes_last p then record p { phase = owe drain } else p
 
-abbrev pub is_owing : PhaseState → Bool
-is_owing run = false
-is_owing (owe cause) = true
-is_owing (last cause) = false
-is_owing (stopped cause) = false
-
 -- the front of the ready CAPTURE buffers goes to done, empty and with LAST
 abbrev pub last_given : PairState → Cause → List Buffer → PairState
 last_given p cause [] = p
@@ -140,18 +135,11 @@ gives_end p (stopped cause) = false
 abbrev pub raises_end : PairState → Bool
 raises_end p = let o = owing p in gives_end o o.phase
 
--- a LAST buffer that could be given and was not
-abbrev pub is_held_back : PhaseState → List Buffer → Bool
-is_held_back run ready = false
-is_held_back (owe cause) ready = not (is_empty ready)
-is_held_back (last cause) ready = false
-is_held_back (stopped cause) ready = false
-
 -- A drain is not put off: where it has come to its end its LAST buffer is owed, and where that is owed no
 -- CAPTURE buffer is ready.
 pub record IsSettled (p : PairState) : Type 0 where
   pub noted : owes_last p ≡ false
-  pub given : is_held_back p.phase p.cap.ready ≡ false
+  pub given : last_not_given p.phase p.cap.ready ≡ false
 
 -- whether the front ready OUTPUT buffer may be worked on
 abbrev pub is_due : List Buffer → Option ℕ → Bool

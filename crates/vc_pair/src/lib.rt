@@ -9,25 +9,25 @@ ghost use Rattle.std.specs.Prelude.{◌≡◌, ◌≢◌, ◌<◌, ◌^◌, not,
 ghost use Rattle.vc_base.specs.declared.Side.TheVariants.{Out, Cap};
 ghost use Rattle.vc_base.specs.Buffers.{without_job_bytes, lend_after, give_back_after, retire_after, streamon_refusal, streamon_after, is_empty, buffer_count, most_buffers, qbuf_refusal, qbuf_after, dqbuf_refusal, reqbufs_refusal, reqbufs_after, create_refusal, created, create_after};
 ghost use Rattle.vc_model.specs.Context.{run, owe, last, stopped, is_run, is_stopped, is_drained, PhaseState};
+ghost use Rattle.vc_model.specs.Phases.{is_owed};
 ghost use Rattle.vc_model.specs.Answer.{is_stopped_by_drain, start_is_early, without_drain_stop, mark_after_restart};
 ghost use Rattle.vc_queue.specs.Answers.{answer_of, after_of, queued_bytes, front_taken, HandsBack};
 ghost use Rattle.vc_queue.specs.Growing.{AnswersWithMemory, KeepsFirst};
 ghost use Rattle.vc_queue.specs.Holds.{HoldState, with_payload};
 ghost use Rattle.vc_queue.specs.Releasing.{AllGoToUser};
 ghost use Rattle.vc_queue.specs.Lending.{IsLentFrom, IsBack, back_bytes};
-ghost use Rattle.vc_pair.specs.Pairs.{PairState, new_pair, queue_at, with_queue_at, IsIdle, both_streaming, stop_refusal, pair_marked, start_refusal, pair_started, is_final, cap_retired, out_retired, pair_changed, owes_last, owing, is_owing, given, gives_end, FitsBoth, is_ended_at, pair_at_last, pair_taken, pair_off, pair_settled, raises_end, is_due, IsSettled};
+ghost use Rattle.vc_pair.specs.Pairs.{PairState, new_pair, queue_at, with_queue_at, IsIdle, both_streaming, stop_refusal, pair_marked, start_refusal, pair_started, is_final, cap_retired, out_retired, pair_changed, owes_last, owing, given, gives_end, FitsBoth, is_ended_at, pair_at_last, pair_taken, pair_off, pair_settled, raises_end, is_due, IsSettled};
 ghost use Rattle.vc_pair.specs.Phases.{phase_alone, phase_of};
 
 pub mod laws;
 
+use bitflags::Flags;
 use std::alloc::Global;
 use std::marker::Model;
+use vc_base::flags::BufFlags;
 use vc_base::{Errno, Reply, Side, Stamp};
 use vc_queue::hold::Hold;
 use vc_queue::queue::{Lent, Queue};
-
-/// The flag of the last buffer before a stop.
-const LAST: u32 = 0x100000;
 
 /// Whether jobs may run, and where a stop stands.
 #[derive(Clone, Copy, Debug, PartialEq, Eq)]
@@ -278,7 +278,8 @@ impl Pair {
             self.cap.retire(lent, used, flags, stamp);
             return false;
         }
-        self.cap.retire(lent, used, flags | LAST, stamp);
+        self.cap
+            .retire(lent, used, flags | BufFlags::LAST.bits(), stamp);
         self.phase = Phase::Last;
         self.by_change = false;
         true
@@ -318,8 +319,8 @@ impl Pair {
     }
 
     /// Whether a LAST buffer is owed.
-    fn is_owing(&self) -> bool
-        ensures { result ≡ is_owing self.now.phase }
+    fn is_owed(&self) -> bool
+        ensures { result ≡ is_owed self.now.phase }
     {
         match self.phase {
             Phase::Run => false,
@@ -336,14 +337,14 @@ impl Pair {
         ensures after { self.new ≡ given self.old self.old.phase }
         ensures raises { result ≡ gives_end self.old self.old.phase }
     {
-        if !self.is_owing() {
+        if !self.is_owed() {
             return false;
         }
         if self.cap.front_ordinal().is_none() {
             return false;
         }
         let lent = self.cap.lend();
-        self.cap.retire(lent, 0, LAST, Stamp(0));
+        self.cap.retire(lent, 0, BufFlags::LAST.bits(), Stamp(0));
         self.phase = Phase::Last;
         !self.by_change
     }
