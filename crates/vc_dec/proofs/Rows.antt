@@ -10,7 +10,8 @@ use Rattle.vc_base.specs.declared.Reply.TheVariants.{Done}
 use Rattle.vc_base.specs.Buffers.{Buffer, QueueState, streamon_refusal, streamon_after}
 use Rattle.vc_base.specs.Events.{EventState}
 use Rattle.vc_model.specs.Context.{Context, format_of, run}
-use Rattle.vc_model.specs.Answer.{unless, answered, context_answer, streamon_answer, start_answer, stop_answer, is_stopped_by_drain}
+use Rattle.vc_model.specs.Answer.{unless, answered, context_answer, streamon_answer, start_answer, stop_answer}
+use Rattle.vc_model.specs.Phases.{is_stopped_by_drain}
 use Rattle.vc_model.specs.Sound.{CountsUp, CountsUpToNext}
 use Rattle.vc_geom.specs.Pairs.{pair_of}
 use Rattle.vc_pair.specs.Pairs.{PairState, queue_at, with_queue_at, pair_settled, raises_end, both_streaming, stop_refusal, pair_marked, start_refusal, pair_started, FitsBoth, is_due}

@@ -10,7 +10,8 @@ use Rattle.vc_base.specs.Events.{EventState}
 use Rattle.vc_defs.specs.Encoder.{RunRates}
 use Rattle.vc_model.specs.Formats.{FormatPair}
 use Rattle.vc_model.specs.Context.{Context, format_of, run}
-use Rattle.vc_model.specs.Answer.{Answer, answered, unless, streamon_answer, stop_answer, start_answer, is_stopped_by_drain}
+use Rattle.vc_model.specs.Answer.{Answer, answered, unless, streamon_answer, stop_answer, start_answer}
+use Rattle.vc_model.specs.Phases.{is_stopped_by_drain}
 use Rattle.vc_queue.specs.Answers.{answer_of, after_of}
 use Rattle.vc_queue.specs.Holds.{HoldState}
 use Rattle.vc_work.specs.References.{CodecReference}

@@ -12,7 +12,8 @@ use Rattle.vc_base.specs.Buffers.{Buffer, QueueState, is_empty, buffer_count, re
 use Rattle.vc_defs.specs.Encoder.{fresh_encoder}
 use Rattle.vc_model.specs.Formats.{FormatPair}
 use Rattle.vc_model.specs.Context.{drain, change, PhaseState, run, owe, last, stopped}
-use Rattle.vc_model.specs.Answer.{is_stopped_by_drain, mark_after_restart}
+use Rattle.vc_model.specs.Answer.{mark_after_restart}
+use Rattle.vc_model.specs.Phases.{is_stopped_by_drain}
 use Rattle.vc_model.specs.Sound.{AreLong}
 use Rattle.vc_work.specs.References.{CodecReference}
 use Rattle.vc_pair.specs.Pairs.{PairState, queue_at, with_queue_at, pair_at_last, pair_taken, pair_marked, pair_started, pair_off, both_streaming}

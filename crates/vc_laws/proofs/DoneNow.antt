@@ -16,7 +16,8 @@ use Rattle.vc_base.specs.Buffers.{Buffer, QueueState, known_bytes, last_flag, er
 use Rattle.vc_defs.specs.Decoder.{outcome_of, outcome_of_result}
 use Rattle.vc_model.specs.Coder.{Coder, CodecState}
 use Rattle.vc_model.specs.Context.{Context, Slot, Cause, drain, change, PhaseState, run, owe, last, stopped, is_run, is_stopped, is_drain, is_drained}
-use Rattle.vc_model.specs.Answer.{start_is_early, without_drain_stop, is_stopped_by_drain}
+use Rattle.vc_model.specs.Answer.{start_is_early, without_drain_stop}
+use Rattle.vc_model.specs.Phases.{is_stopped_by_drain}
 use Rattle.vc_model.specs.Runs.{JobData, job_data, RunResult, copied, encoded, decoded, run_result, result_word, run_word, finish_word}
 use Rattle.vc_model.specs.Solo.{SoloEvent, Called, Claims, Finishes, SoloReply, Answered, Claimed, Finished, Nothing, solo_step}
 use Rattle.vc_model.specs.Sound.{is_last, stops_by_change, drain_not_noted, IsOrdered, IsOrderedSlot}

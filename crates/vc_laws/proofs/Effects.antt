@@ -22,7 +22,8 @@ use Rattle.vc_defs.specs.Encoder.{RunRates}
 use Rattle.vc_model.specs.Formats.{formats_for}
 use Rattle.vc_model.specs.Coder.{CodecState, reset}
 use Rattle.vc_model.specs.Context.{Context, Slot, Running, Cause, drain, change, PhaseState, run, owe, last, stopped, queue_of, with_queue, is_dec, is_enc, is_run, is_stopped, is_drained, has_before, sizeimage, settle, settle_owed, settle_last, give_last}
-use Rattle.vc_model.specs.Answer.{Answer, unchanged, refused, answered, unless, if_found, unless_or_block, desc_answer, set_answer, set_refusal, after_new_format, reqbufs_answer, after_new_buffers, create_answer, query_answer, qbuf_answer, is_part_of_picture, taken_answer, after_taking, stop_at_last, is_ended, streamon_answer, streamoff_answer, streamoff_effect, without_drain_stop, after_output_off, mark_after_restart, after_capture_off, both_stream, is_stopped_by_drain, stop_answer, start_is_early, start_answer, command_answer, value_answer, control_answer, context_answer}
+use Rattle.vc_model.specs.Answer.{Answer, unchanged, refused, answered, unless, if_found, unless_or_block, desc_answer, set_answer, set_refusal, after_new_format, reqbufs_answer, after_new_buffers, create_answer, query_answer, qbuf_answer, is_part_of_picture, taken_answer, after_taking, stop_at_last, is_ended, streamon_answer, streamoff_answer, streamoff_effect, without_drain_stop, after_output_off, mark_after_restart, after_capture_off, both_stream, stop_answer, start_is_early, start_answer, command_answer, value_answer, control_answer, context_answer}
+use Rattle.vc_model.specs.Phases.{is_stopped_by_drain}
 use Rattle.vc_model.specs.Drains.{takes_a_buffer}
 use Rattle.vc_model.specs.Sound.{drain_not_noted, last_not_given, is_last, MarkIsQueued, IsSettled, IsSoundButUnsettled, IsOrdered}
 use Rattle.vc_model.proofs.Tests.{not_false}

@@ -14,7 +14,8 @@ use Rattle.vc_base.specs.Buffers.{Buffer, QueueState, buffer_count}
 use Rattle.vc_model.specs.Formats.{FormatPair, formats_for}
 use Rattle.vc_model.specs.Coder.{Coder}
 use Rattle.vc_model.specs.Context.{Context, Slot, Running, Cause, drain, change, PhaseState, run, owe, last, stopped, fresh_context, is_enc, is_run}
-use Rattle.vc_model.specs.Answer.{is_stopped_by_drain, without_drain_stop, answer, closed_answer}
+use Rattle.vc_model.specs.Answer.{without_drain_stop, answer, closed_answer}
+use Rattle.vc_model.specs.Phases.{is_stopped_by_drain}
 use Rattle.vc_model.specs.Runs.{front_is_due, sort_of, run_format, running_of, JobData, RunResult}
 use Rattle.vc_model.specs.Solo.{SoloEvent, Called, Claims, Finishes, SoloReply, solo_step, solo_slot}
 use Rattle.vc_model.specs.Sound.{CountsUp, HasItsBuffers, IsSoundButUnsettled, IsOrdered, IsOrderedSlot}

@@ -18,7 +18,8 @@ use Rattle.vc_model.specs.Formats.{formats_listed, formats_for}
 use Rattle.vc_base.specs.Events.{Event, event_reply, event_refusal, subscribe_after, unsubscribe_after, take_event_after}
 use Rattle.vc_defs.specs.Encoder.{RunRates}
 use Rattle.vc_model.specs.Context.{Context, Slot, run, queue_of, with_queue, format_of, sizeimage, is_dec, is_enc}
-use Rattle.vc_model.specs.Answer.{set_refusal, after_new_format, after_new_buffers, is_part_of_picture, is_ended, streamoff_effect, control_of, with_control, Answer, unchanged, refused, answered, unless, if_found, unless_or_block, desc_answer, query_answer, taken_answer, both_stream, is_stopped_by_drain, stop_answer, start_is_early, start_answer, command_answer, value_answer, control_answer, context_answer, closed_answer, answer}
+use Rattle.vc_model.specs.Answer.{set_refusal, after_new_format, after_new_buffers, is_part_of_picture, is_ended, streamoff_effect, control_of, with_control, Answer, unchanged, refused, answered, unless, if_found, unless_or_block, desc_answer, query_answer, taken_answer, both_stream, stop_answer, start_is_early, start_answer, command_answer, value_answer, control_answer, context_answer, closed_answer, answer}
+use Rattle.vc_model.specs.Phases.{is_stopped_by_drain}
 use Rattle.vc_model.specs.Runs.{is_claimable}
 use Rattle.vc_model.specs.Solo.{Answered}
 use Rattle.vc_model.specs.Devices.{Told, new_device, slot_of, waiting_after, with_slot, steps_of, counted, ignored, call_answered, device_after}

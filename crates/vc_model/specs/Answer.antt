@@ -19,7 +19,8 @@ use Rattle.vc_base.specs.Events.{event_refusal, subscribe_after, unsubscribe_aft
 use Rattle.vc_model.specs.Formats.{formats_listed, formats_for}
 use Rattle.vc_model.specs.Coder.{reset}
 use Rattle.vc_defs.specs.Encoder.{RunRates}
-use Rattle.vc_model.specs.Context.{Context, Slot, drain, change, PhaseState, run, owe, last, stopped, fresh_context, is_dec, is_enc, queue_of, with_queue, format_of, sizeimage, is_stopped, is_drain, settle}
+use Rattle.vc_model.specs.Context.{Context, Slot, drain, change, PhaseState, run, owe, last, stopped, fresh_context, is_dec, is_enc, queue_of, with_queue, format_of, sizeimage, is_stopped, settle}
+use Rattle.vc_model.specs.Phases.{is_stopped_by_drain}
 
 -- What a call leads to: the slot after it, the reply, and the bytes that are handed out.
 pub record Answer : Type 0 where
@@ -106,7 +107,7 @@ abbrev pub query_answer : Context → Option Reply → Answer
 query_answer c None = refused c Inval
 query_answer c (Some reply) = unchanged c reply
 
--- an encoder takes whole pictures only ("Encoding" of the stateful encoder)
+-- an encoder takes whole pictures only (docs/DEVICE.md, "What is our own")
 abbrev pub is_part_of_picture : Context → Side → ℕ → Bool
 is_part_of_picture c Out used = is_enc c.kind && not (used == sizeimage c Out)
 is_part_of_picture c Cap used = false
@@ -156,7 +157,7 @@ streamon_answer c side =
     let q = queue_of c side in
     unless c (streamon_refusal q (sizeimage c side)) (answered (with_queue c side (streamon_after q)) Done)
 
--- a stop by a drain is over, and a stop by a change stays
+-- a stop by a drain is over, and a stop by a change stays (docs/DEVICE.md, "What is our own")
 abbrev pub without_drain_stop : PhaseState → PhaseState
 without_drain_stop run = run
 without_drain_stop (owe drain) = run
@@ -172,7 +173,7 @@ after_output_off Copy c = c
 after_output_off Enc c = c
 after_output_off Dec c = record c { codec = reset c.codec }
 
--- the mark stays where the context stopped by a change
+-- the mark stays where the context stopped by a change (docs/DEVICE.md, "What is our own")
 abbrev pub mark_after_restart : PhaseState → Option ℕ → Option ℕ
 mark_after_restart run mark = None
 mark_after_restart (owe drain) mark = None
@@ -216,12 +217,6 @@ dqevent_answer c block =
 abbrev pub both_stream : Context → Bool
 both_stream c = c.out.streams && c.cap.streams
 
-abbrev pub is_stopped_by_drain : PhaseState → Bool
-is_stopped_by_drain run = false
-is_stopped_by_drain (owe cause) = false
-is_stopped_by_drain (last cause) = false
-is_stopped_by_drain (stopped cause) = is_drain cause
-
 abbrev pub stop_answer : Context → Answer
 stop_answer c =
     if not (both_stream c) then unchanged c Done else
@@ -248,7 +243,7 @@ command_answer c cmd =
 
 -- Controls (VIDIOC_G_CTRL, VIDIOC_S_CTRL; "Encoding Parameter Changes" of the stateful encoder)
 
--- the value of a control, where the kind has it
+-- the value of a control, where the kind has it (docs/DEVICE.md, "What is our own")
 abbrev pub control_of : Kind → RunRates → ℕ → Option ℕ
 control_of Copy rates id = None
 control_of Enc rates id =

@@ -17,7 +17,8 @@ pub record BeginsRight (t : ReplyText) (coder : Coder) (n : ℕ) (lines : List A
   pub begins : first_lines right m ≡ first_lines report m
 
 -- The first wrong line of a report, counted from 1: so many lines, and not fewer, are those of no right report. A last line
--- without a line feed is wrong, and where a right report goes on after this one the line that is lacking is.
+-- without a line feed is wrong. Where the report is only the beginning of a right one, the first wrong line is the first that it
+-- lacks.
 pub record IsFirstWrong (t : ReplyText) (coder : Coder) (n : ℕ) (lines : List Asked) (report : List ℕ) (line : ℕ) : Type 0 where
   pub wrong : BeginsRight t coder n lines report line → ⊥
   pub least : (m : ℕ) → m < line → BeginsRight t coder n lines report m

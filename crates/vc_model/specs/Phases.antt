@@ -38,6 +38,13 @@ is_last_by_change (owe cause) = false
 is_last_by_change (last cause) = not (is_drain cause)
 is_last_by_change (stopped cause) = false
 
+-- the LAST buffer of a drain was taken
+abbrev pub is_stopped_by_drain : PhaseState → Bool
+is_stopped_by_drain run = false
+is_stopped_by_drain (owe cause) = false
+is_stopped_by_drain (last cause) = false
+is_stopped_by_drain (stopped cause) = is_drain cause
+
 -- the end of a drain, before its LAST buffer is taken: it is due or in done
 abbrev pub is_at_end : PhaseState → Bool
 is_at_end run = false

@@ -40,15 +40,12 @@ is_shut_event (claim worker) = false
 is_shut_event (finish worker fault) = false
 is_shut_event shut = true
 
--- the positions of the calls of slot k in a history, and those of the claims and finishes of a worker, and of every Shut
+-- the positions of the calls of slot k in a history, and those of the claims and finishes of a worker
 abbrev pub calls_at : ℕ → List DeviceEvent → List ℕ
 calls_at k history = positions_from (is_call_of k) 0 history
 
 abbrev pub steps_at : ℕ → List DeviceEvent → List ℕ
 steps_at worker history = positions_from (is_step_of worker) 0 history
-
-abbrev pub shuts_at : List DeviceEvent → List ℕ
-shuts_at history = positions_from is_shut_event 0 history
 
 -- the device of n slots before the event at a position, and what was told at it
 abbrev pub device_before : Coder → ℕ → List DeviceEvent → ℕ → DeviceState

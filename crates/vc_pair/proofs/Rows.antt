@@ -7,7 +7,8 @@ use Rattle.vc_base.specs.declared.Errno.TheVariants.{Busy, Inval}
 use Rattle.vc_base.specs.declared.Reply.TheVariants.{Done}
 use Rattle.vc_base.specs.Buffers.{Buffer, is_empty, dqbuf_after, streamoff_after, retire_after, last_flag, long_enough, refuse_if}
 use Rattle.vc_model.specs.Context.{Context, Cause, drain, change, PhaseState, run, owe, last, stopped, is_run, is_drained, settle, settle_drain, settle_last, give_last, raise_end, sizeimage}
-use Rattle.vc_model.specs.Answer.{stop_at_last, after_capture_off, unchanged, refused, answered, is_stopped_by_drain, start_is_early, mark_after_restart}
+use Rattle.vc_model.specs.Answer.{stop_at_last, after_capture_off, unchanged, refused, answered, start_is_early, mark_after_restart}
+use Rattle.vc_model.specs.Phases.{is_stopped_by_drain}
 use Rattle.vc_pair.specs.Pairs.{PairState, pair_at_last, pair_settled, owing, given, gives_end, last_given, IsSettled}
 use Rattle.vc_pair.specs.Rows.{pair_of, with_pair, ended_if, settled_with, JobsAgree, AnswersWith, SameTaken, SameOff, SameSettled, SameCommands, SameChange, IsRunFlag, no_flag, keyframe, pframe, error, SameRetired, SameDue}
 use Rattle.vc_pair.proofs.Settling.{settled_alone, settled_quiet}

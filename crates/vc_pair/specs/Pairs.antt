@@ -7,7 +7,8 @@ use Rattle.vc_base.specs.declared.Errno.{Errno}
 use Rattle.vc_base.specs.declared.Errno.TheVariants.{Busy, Inval}
 use Rattle.vc_base.specs.Buffers.{Buffer, QueueState, new_queue, is_empty, refuse_if, dqbuf_after, streamoff_after, long_enough, lend_after, retire_after, last_flag, zero_stamp}
 use Rattle.vc_model.specs.Context.{Cause, drain, change, PhaseState, run, owe, last, stopped, is_run, is_stopped, is_drain, is_drained}
-use Rattle.vc_model.specs.Answer.{without_drain_stop, mark_after_restart, is_stopped_by_drain, start_is_early}
+use Rattle.vc_model.specs.Answer.{without_drain_stop, mark_after_restart, start_is_early}
+use Rattle.vc_model.specs.Phases.{is_stopped_by_drain}
 use Rattle.vc_model.specs.Sound.{last_not_given}
 use Rattle.vc_queue.specs.Holds.{HoldState, Fits}
 

@@ -9,8 +9,8 @@ ghost use Rattle.std.specs.Prelude.{◌≡◌, ◌≢◌, ◌<◌, ◌^◌, not,
 ghost use Rattle.vc_base.specs.declared.Side.TheVariants.{Out, Cap};
 ghost use Rattle.vc_base.specs.Buffers.{without_job_bytes, lend_after, give_back_after, retire_after, streamon_refusal, streamon_after, is_empty, buffer_count, most_buffers, qbuf_refusal, qbuf_after, dqbuf_refusal, reqbufs_refusal, reqbufs_after, create_refusal, created, create_after};
 ghost use Rattle.vc_model.specs.Context.{run, owe, last, stopped, is_run, is_stopped, is_drained, PhaseState};
-ghost use Rattle.vc_model.specs.Phases.{is_owed};
-ghost use Rattle.vc_model.specs.Answer.{is_stopped_by_drain, start_is_early, without_drain_stop, mark_after_restart};
+ghost use Rattle.vc_model.specs.Answer.{start_is_early, without_drain_stop, mark_after_restart};
+ghost use Rattle.vc_model.specs.Phases.{is_owed, is_stopped_by_drain};
 ghost use Rattle.vc_queue.specs.Answers.{answer_of, after_of, queued_bytes, front_taken, HandsBack};
 ghost use Rattle.vc_queue.specs.Growing.{AnswersWithMemory, KeepsFirst};
 ghost use Rattle.vc_queue.specs.Holds.{HoldState, with_payload};

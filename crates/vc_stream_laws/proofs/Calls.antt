@@ -17,10 +17,10 @@ use Rattle.vc_base.specs.declared.Reply.TheVariants.{Done, Taken, Refused, Block
 use Rattle.vc_base.specs.Buffers.{Buffer, QueueState, is_empty, refuse_if, with_index, queued_buffer, queue_held, held_refusal, qbuf_refusal, qbuf_after, take_front, taken, streamon_refusal, streamon_after, streamoff_after}
 use Rattle.vc_model.specs.Coder.{the_coder}
 use Rattle.vc_model.specs.Context.{Context, Slot, Cause, drain, change, PhaseState, run, owe, last, stopped, with_queue, is_dec, is_enc, is_run, is_stopped, is_drained, sizeimage, settle}
-use Rattle.vc_model.specs.Answer.{Answer, unchanged, refused, answered, unless, unless_or_block, is_part_of_picture, taken_answer, both_stream, is_stopped_by_drain, stop_answer, command_answer, streamoff_effect, after_capture_off, mark_after_restart, answer, context_answer}
+use Rattle.vc_model.specs.Answer.{Answer, unchanged, refused, answered, unless, unless_or_block, is_part_of_picture, taken_answer, both_stream, stop_answer, command_answer, streamoff_effect, after_capture_off, mark_after_restart, answer, context_answer}
 use Rattle.vc_model.specs.Drains.{takes_capture, takes_a_buffer, done_now}
 use Rattle.vc_model.specs.Handed.{handed_by}
-use Rattle.vc_model.specs.Phases.{is_over, is_at_end}
+use Rattle.vc_model.specs.Phases.{is_over, is_at_end, is_stopped_by_drain}
 use Rattle.vc_model.specs.Places.{has_error}
 use Rattle.vc_model.specs.Solo.{SoloEvent, Called, Answered, solo_step}
 use Rattle.vc_model.specs.Sound.{IsOrdered}

@@ -6,8 +6,7 @@ use Rattle.vc_base.specs.declared.Stamp.{Stamp}
 use Rattle.vc_base.specs.Buffers.{Buffer, QueueState}
 use Rattle.vc_model.specs.Coder.{CodecState}
 use Rattle.vc_model.specs.Context.{Context, Cause, drain, change, PhaseState, run, owe, last, stopped, is_run, is_stopped, is_drained}
-use Rattle.vc_model.specs.Answer.{is_stopped_by_drain}
-use Rattle.vc_model.specs.Phases.{is_over, is_last_by_drain}
+use Rattle.vc_model.specs.Phases.{is_over, is_last_by_drain, is_stopped_by_drain}
 use Rattle.vc_model.specs.Places.{has_error}
 use Rattle.vc_model.specs.Runs.{JobData, RunResult}
 use Rattle.vc_model.specs.Sound.{drain_not_noted}

@@ -11,10 +11,9 @@ use Rattle.vc_defs.specs.Places.{places, look}
 use Rattle.vc_defs.specs.Outputs.{input_results}
 use Rattle.vc_model.specs.Coder.{the_coder}
 use Rattle.vc_model.specs.Context.{Context, Slot, Running, is_drained}
-use Rattle.vc_model.specs.Answer.{is_stopped_by_drain}
 use Rattle.vc_model.specs.Drains.{is_last_by_drain, gives_last, takes_capture, done_now}
 use Rattle.vc_model.specs.Handed.{is_finish_by, handed_by}
-use Rattle.vc_model.specs.Phases.{is_over}
+use Rattle.vc_model.specs.Phases.{is_over, is_stopped_by_drain}
 use Rattle.vc_model.specs.Places.{is_honest}
 use Rattle.vc_model.specs.Runs.{job_data, RunResult, copied, encoded, decoded, run_result}
 use Rattle.vc_model.specs.Solo.{SoloEvent, Called, Claims, Finishes, SoloReply, solo_step}

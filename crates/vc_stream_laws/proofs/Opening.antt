@@ -20,10 +20,10 @@ use Rattle.vc_defs.specs.Headers.{most_bytes}
 use Rattle.vc_model.specs.Formats.{width_for, height_for, frame_room, clamp, size_or, formats_for}
 use Rattle.vc_model.specs.Coder.{the_coder}
 use Rattle.vc_model.specs.Context.{Context, Slot, drain, owe, run, fresh_context, format_of, is_dec, is_enc, is_run, is_drained, with_queue, sizeimage, settle}
-use Rattle.vc_model.specs.Answer.{Answer, answered, unless, set_refusal, after_new_format, is_stopped_by_drain, answer, closed_answer, context_answer}
+use Rattle.vc_model.specs.Answer.{Answer, answered, unless, set_refusal, after_new_format, answer, closed_answer, context_answer}
 use Rattle.vc_model.specs.Drains.{done_now}
 use Rattle.vc_model.specs.Handed.{is_finish_by, handed_by}
-use Rattle.vc_model.specs.Phases.{is_over}
+use Rattle.vc_model.specs.Phases.{is_over, is_stopped_by_drain}
 use Rattle.vc_model.specs.Places.{is_honest}
 use Rattle.vc_model.specs.Solo.{SoloEvent, Called, Claims, Finishes, SoloReply, Answered, Nothing, solo_step}
 use Rattle.vc_model.specs.Sound.{drain_not_noted}

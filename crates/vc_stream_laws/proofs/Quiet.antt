@@ -10,10 +10,10 @@ use Rattle.vc_base.specs.declared.Errno.TheVariants.{Busy}
 use Rattle.vc_base.specs.Buffers.{refuse_if, most_buffers, Buffer, QueueState, queue_held, is_empty, take_front, reqbufs_after, streamon_after}
 use Rattle.vc_model.specs.Coder.{the_coder}
 use Rattle.vc_model.specs.Context.{Context, Slot, with_queue, sizeimage}
-use Rattle.vc_model.specs.Answer.{is_stopped_by_drain, answer, context_answer, unless, if_found, answered, after_new_buffers}
+use Rattle.vc_model.specs.Answer.{answer, context_answer, unless, if_found, answered, after_new_buffers}
 use Rattle.vc_model.specs.Drains.{takes_a_buffer}
 use Rattle.vc_model.specs.Handed.{handed_by_call}
-use Rattle.vc_model.specs.Phases.{is_over}
+use Rattle.vc_model.specs.Phases.{is_over, is_stopped_by_drain}
 use Rattle.vc_model.specs.Places.{has_error, is_honest_call}
 use Rattle.vc_model.specs.Solo.{SoloEvent, Called, Answered, solo_step}
 use Rattle.vc_model.specs.Sound.{IsOrdered, IsOrderedSlot}

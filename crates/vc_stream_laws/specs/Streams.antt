@@ -10,8 +10,7 @@ use Rattle.vc_defs.specs.Decoder.{FrameResult}
 use Rattle.vc_defs.specs.Outputs.{input_results, decode_output, is_damage, result_count}
 use Rattle.vc_model.specs.Coder.{the_coder}
 use Rattle.vc_model.specs.Context.{Context, Running, drain, change, run, stopped, is_stopped}
-use Rattle.vc_model.specs.Answer.{is_stopped_by_drain}
-use Rattle.vc_model.specs.Phases.{is_over}
+use Rattle.vc_model.specs.Phases.{is_over, is_stopped_by_drain}
 use Rattle.vc_model.specs.Places.{AreHonest, has_error}
 use Rattle.vc_model.specs.Handed.{finishes_by_fault}
 use Rattle.vc_model.specs.Solo.{SoloEvent}

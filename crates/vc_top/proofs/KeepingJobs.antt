@@ -17,7 +17,8 @@ use Rattle.vc_base.specs.Buffers.{Buffer, QueueState, buffer_count, most_buffers
 use Rattle.vc_model.specs.Formats.{formats_for}
 use Rattle.vc_defs.specs.Encoder.{RunRates}
 use Rattle.vc_model.specs.Context.{Context, Slot, Running, drain, PhaseState, run, owe, queue_of, with_queue, format_of, is_dec, is_enc, is_run, is_drained, sizeimage, settle, settle_drain, settle_last}
-use Rattle.vc_model.specs.Answer.{Answer, unchanged, refused, answered, unless, if_found, unless_running, unless_or_block, desc_answer, set_answer, set_refusal, after_new_format, reqbufs_answer, after_new_buffers, query_answer, is_part_of_picture, taken_answer, after_taking, stop_at_last, is_ended, both_stream, is_stopped_by_drain, stop_answer, start_is_early, start_answer, command_answer, value_answer, control_answer, context_answer, answer}
+use Rattle.vc_model.specs.Answer.{Answer, unchanged, refused, answered, unless, if_found, unless_running, unless_or_block, desc_answer, set_answer, set_refusal, after_new_format, reqbufs_answer, after_new_buffers, query_answer, is_part_of_picture, taken_answer, after_taking, stop_at_last, is_ended, both_stream, stop_answer, start_is_early, start_answer, command_answer, value_answer, control_answer, context_answer, answer}
+use Rattle.vc_model.specs.Phases.{is_stopped_by_drain}
 
 -- A job runs, in phase Run. OUTPUT streams and has a buffer, and CAPTURE has none in the job where it doesn't stream.
 pub record IsBusy (c : Context) (r : Running) : Type 0 where
