@@ -18,3 +18,4 @@ mod Sharing
 mod Decoding
 mod FlowEnds
 mod Kept
+mod ScriptLaws

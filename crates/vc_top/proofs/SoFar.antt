@@ -62,7 +62,7 @@ filter_both f (x ∷ xs) ys = split (f x) (filter_both f xs ys)
     split true h = omega (arith, h)
     split false h = h
 
-finishes_both : (fault : Bool) (xs ys : List DeviceEvent) → finishes fault (xs ++ ys) ≡ finishes fault xs + finishes fault ys
+pub finishes_both : (fault : Bool) (xs ys : List DeviceEvent) → finishes fault (xs ++ ys) ≡ finishes fault xs + finishes fault ys
 finishes_both fault xs ys = filter_both (is_finish fault) xs ys
 
 rose_both : (m k before mid now : ℕ) → RoseBy m before mid → RoseBy k mid now → RoseBy (m + k) before now

@@ -2,7 +2,7 @@
 
 ghost use Rattle.vc_model.specs.Script.{IsLineText};
 ghost use Rattle.vc_script.specs.Texts.{reply_text};
-ghost use Rattle.vc_top.specs.Slots.{OwnLines, SameLines};
+ghost use Rattle.vc_top.specs.Slots.{FinishLinesAreCounted, LinesAsk, OwnLines, SameLines, ScriptIsHonest, TextsAreOne};
 
 /// The answer to each call is one line of its slot, and no line of a finish.
 pub fn answers_are_lines()
@@ -14,4 +14,20 @@ pub fn answers_are_lines()
 pub fn slots_print_their_own()
     ensures own { OwnLines }
     ensures same { SameLines }
+{}
+
+/// What the lines of a script ask for can be asked, so each slot's events in it are honest.
+pub fn scripts_are_honest()
+    ensures asked { LinesAsk }
+    ensures honest { ScriptIsHonest }
+{}
+
+/// The lines that finishes print are as many as the jobs that ended, with a fault and without.
+pub fn finish_lines_are_counted()
+    ensures { FinishLinesAreCounted }
+{}
+
+/// The texts of claims and finishes in the model of scripts are those that are printed.
+pub fn texts_are_one()
+    ensures { TextsAreOne }
 {}
