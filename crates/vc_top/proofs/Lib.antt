@@ -8,6 +8,7 @@ mod JobsDone
 mod KeepingJobs
 mod LineTexts
 mod Made
+mod Meanings
 mod SoFar
 mod Transitions
 mod Whole
@@ -19,3 +20,4 @@ mod Decoding
 mod FlowEnds
 mod Kept
 mod ScriptLaws
+mod ShareLaws

@@ -1,7 +1,8 @@
-//! Laws of the output of scripts, proved from the definitions alone.
+//! Laws of the output of scripts and of the sharing, proved from the definitions alone.
 
 ghost use Rattle.vc_model.specs.Script.{IsLineText};
 ghost use Rattle.vc_script.specs.Texts.{reply_text};
+ghost use Rattle.vc_top.specs.Shares.{ShareLinesAreDefined};
 ghost use Rattle.vc_top.specs.Slots.{FinishLinesAreCounted, LinesAsk, OwnLines, SameLines, ScriptIsHonest, TextsAreOne};
 
 /// The answer to each call is one line of its slot, and no line of a finish.
@@ -30,4 +31,9 @@ pub fn finish_lines_are_counted()
 /// The texts of claims and finishes in the model of scripts are those that are printed.
 pub fn texts_are_one()
     ensures { TextsAreOne }
+{}
+
+/// The lines that the sharing writes, for options that words can ask for, are its defined output.
+pub fn share_lines_are_defined()
+    ensures { ShareLinesAreDefined }
 {}
