@@ -12,8 +12,8 @@ use Rattle.vc_model.specs.Coder.{Coder, the_coder}
 use Rattle.vc_model.specs.Context.{Context, Slot, Running}
 use Rattle.vc_model.specs.Runs.{JobData, job_data, finish_word}
 use Rattle.vc_model.specs.Solo.{SoloEntry, Finished}
-use Rattle.vc_model.specs.Devices.{DeviceState, DeviceEntry, DeviceReply, Told, NoJob, Empty, new_device, slot_of, job_of, finish_of, finish_slot, finish_job, device_step, device_after, device_run, told_entries, all_entries}
-use Rattle.vc_model.specs.Handed.{same_bool, is_finish_by, finishes_by_fault}
+use Rattle.vc_model.specs.Devices.{DeviceState, DeviceReply, Told, NoJob, Empty, new_device, slot_of, job_of, finish_of, finish_slot, finish_job, device_step, device_after, device_run, told_entries, all_entries}
+use Rattle.vc_model.specs.Handed.{same_bool, finishes_by_fault}
 use Rattle.vc_model.specs.Standing.{job_in, job_in_slot}
 use Rattle.vc_model.specs.Script.{ReplyText, Asked, AsksNothing, AsksCall, AsksClaim, AsksFinish, AsksRun, IsAsked, AreAsked, most_slots, found_in, fault_in, run_events, line_events, printed_by, script_events, events_of_script}
 use Rattle.vc_model.proofs.Honest.{scripts_are_honest}

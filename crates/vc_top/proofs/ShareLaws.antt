@@ -1,7 +1,6 @@
 -- The lines of the sharing are its defined output, since its format is `YU12`.
-use Rattle.std.proofs.Common.{ℕ, ◌≡◌, ◌+◌, Bool, true, false, cond, ◌&&◌, nat_eq, Option, Some, None, List, [], ◌∷◌, ◌++◌, refl, ap, ◌∙◌, subst}
+use Rattle.std.proofs.Common.{ℕ, ◌≡◌, ◌+◌, Bool, true, false, cond, ◌&&◌, nat_eq, Option, Some, None, List, [], ◌∷◌, ◌++◌, refl, ap, ◌∙◌}
 use Rattle.std.specs.Prelude.{codes, bytes_eq}
-use Rattle.std.specs.Option.{option_map}
 use Rattle.std.specs.List.{flat_map, range_with_len}
 use Rattle.std.proofs.lemmas.Bool.{false≢true}
 use Rattle.std.proofs.lemmas.Slice.Eq.{bytes_eq-Decides}
@@ -14,7 +13,7 @@ use Rattle.vc_words.specs.declared.command.Command.{Command}
 use Rattle.vc_words.specs.declared.command.Command.TheVariants.{Script, Encode, Decode, Make, Share, Transcode, Audit, Wire}
 use Rattle.vc_words.specs.declared.command.ShareOptions.{ShareOptions}
 use Rattle.vc_words.specs.Options.{number_for}
-use Rattle.vc_words.specs.Formats.{width_option, height_option, encoder_format, is_as_asked, kept_format, sized_format}
+use Rattle.vc_words.specs.Formats.{width_option, height_option, encoder_format, is_as_asked, sized_format}
 use Rattle.vc_words.specs.Commands.{contexts_option, shared_pictures_option, number_option, workers_option, script_options, encode_options, decode_options, make_options, share_options, transcode_options, audit_options, wire_options, command_of}
 use Rattle.vc_top.specs.Shares.{context_line, share_lines, ShareLinesAreDefined}
 use Rattle.vc_top.specs.Words.{is_built_command, only_built_command, asked_command}
