@@ -1,6 +1,6 @@
 -- What a line may ask for.
-use Rattle.std.proofs.Common.{ℕ, ◌≡◌, ◌-◌, ◌^◌, ◌<◌, ◌≤◌, nat_le, nat_lt, Bool, true, false, cond, ◌&&◌, Option, Some, None, List, [], ◌∷◌, length, refl, subst, arith}
-use Rattle.std.specs.Prelude.{codes, bytes_eq, option_and_then}
+use Rattle.std.proofs.Common.{ℕ, ◌≡◌, ◌-◌, ◌^◌, ◌<◌, ◌≤◌, nat_le, nat_lt, Bool, true, false, cond, ◌&&◌, Option, Some, None, List, [], ◌∷◌, length, refl, arith}
+use Rattle.std.specs.Prelude.{codes, bytes_eq}
 use Rattle.std.specs.Option.{option_map}
 use Rattle.std.specs.List.{list_all}
 use Rattle.std.specs.Char.{is_ascii_digit}
@@ -22,43 +22,7 @@ use Rattle.vc_script.specs.Calls.{one_of, three_of, small_of, nothing_left, kind
 use Rattle.vc_script.specs.Lines.{queued_on, queued, with_no_bytes, call_and_bytes, slot_below, slot_of, call_line_of, worker_of, line_with, is_comment, asked_by, line_of}
 use Rattle.vc_model.specs.Script.{HasUsedBytes}
 use Rattle.vc_top.specs.Asking.{IsAskedLine}
-
--- what holds of a meaning where there is one
-AllSome : {A : Type 0} → (A → Type 0) → Option A → Type 0
-AllSome P None = Unit {0}
-AllSome P (Some a) = P a
-
-all_bind : {A B : Type 0} (P : A → Type 0) (Q : B → Type 0) (f : A → Option B) (o : Option A) → AllSome P o → ((a : A) → P a → AllSome Q (f a)) → AllSome Q (option_and_then f o)
-unfolding AllSome
-all_bind P Q f None h g = tt
-all_bind P Q f (Some a) h g = g a h
-
-any : {A : Type 0} (o : Option A) → AllSome (λ (a : A). Unit {0}) o
-unfolding AllSome
-any None = tt
-any (Some a) = tt
-
-all_map : {A B : Type 0} (Q : B → Type 0) (f : A → B) (o : Option A) → AllSome (λ a. Q (f a)) o → AllSome Q (option_map f o)
-unfolding AllSome
-all_map Q f None h = tt
-all_map Q f (Some a) h = h
-
-every : {A B : Type 0} (Q : B → Type 0) (f : A → B) (o : Option A) → ((a : A) → Q (f a)) → AllSome Q (option_map f o)
-unfolding AllSome
-every Q f None h = tt
-every Q f (Some a) h = h a
-
-all_cond : {A : Type 0} (Q : A → Type 0) (t : Bool) (x y : Option A) → AllSome Q x → AllSome Q y → AllSome Q (cond t x y)
-all_cond Q true x y h k = h
-all_cond Q false x y h k = k
-
-one : {A : Type 0} (Q : A → Type 0) (a : A) → Q a → AllSome Q (Some a)
-unfolding AllSome
-one Q a h = h
-
-nothing : {A : Type 0} (Q : A → Type 0) → AllSome Q None
-unfolding AllSome
-nothing Q = tt
+use Rattle.vc_top.proofs.Meanings.{AllSome, all_bind, any, all_map, every, all_cond, one, nothing, where_some}
 
 -- Workers and slots
 
@@ -174,5 +138,4 @@ unfolding line_of
 lines_asked n line = asked_is n (words_of line)
 
 pub asked_line : (n : ℕ) (line : List ℕ) (asked : Option Line) → line_of n line ≡ Some asked → IsAskedLine n asked
-unfolding AllSome
-asked_line n line asked e = subst (AllSome (IsAskedLine n)) e (lines_asked n line)
+asked_line n line asked e = where_some (IsAskedLine n) (line_of n line) (lines_asked n line) asked e

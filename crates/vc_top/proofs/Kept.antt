@@ -1,15 +1,15 @@
 -- A raw format is one that a device sets as it is asked for.
 use Rattle.std.proofs.Common.{◌≡◌, ◌∙◌, sym, ap, refl, subst, ℕ, ◌%◌, ◌≤◌, inl, inr, [], ◌∷◌, arith}
-use Rattle.std.specs.Prelude.{◌⊎◌, true, nat_eq}
+use Rattle.std.specs.Prelude.{◌⊎◌, true}
 use Rattle.std.proofs.lemmas.Bool.{and_parts}
 use Rattle.std.proofs.lemmas.Bool.Decides.{nat_tests}
 use Rattle.vc_base.specs.declared.Fourcc.{Fourcc}
 use Rattle.vc_base.specs.declared.Format.{Format}
 use Rattle.vc_defs.specs.declared.Layout.{Layout}
 use Rattle.vc_defs.specs.declared.Layout.TheVariants.{Grey, C420, C422}
-use Rattle.vc_defs.specs.Headers.{is_legal_geometry, is_legal_size, size_suits, is_even}
+use Rattle.vc_defs.specs.Headers.{is_legal_size, size_suits, is_even}
 use Rattle.vc_defs.specs.Laws.{IsRawFormat}
-use Rattle.vc_defs.specs.Raw.{grey, yu12, nv12, yuyv, layout_of, raw_size}
+use Rattle.vc_defs.specs.Raw.{grey, yu12, nv12, yuyv, layout_of}
 use Rattle.vc_model.specs.Formats.{listed_or, width_for, height_for, raw_format}
 use Rattle.vc_encode_flow.specs.Flows.{IsKept}
 

@@ -8,6 +8,7 @@ mod JobsDone
 mod KeepingJobs
 mod LineTexts
 mod Made
+mod Meanings
 mod SoFar
 mod Transitions
 mod Whole
@@ -18,3 +19,5 @@ mod Sharing
 mod Decoding
 mod FlowEnds
 mod Kept
+mod ScriptLaws
+mod ShareLaws

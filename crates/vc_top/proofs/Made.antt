@@ -1,5 +1,5 @@
 -- What a line came to, from what its steps came to.
-use Rattle.std.proofs.Common.{ℕ, zero, suc, ◌≡◌, ◌≤◌, nat_lt, Bool, true, false, cond, Option, Some, None, List, [], ◌∷◌, ◌++◌, length, take, decimal, get_or, refl, sym, ap, ◌∙◌, subst, arith, ⊎_elim, append_assoc}
+use Rattle.std.proofs.Common.{ℕ, zero, suc, ◌≡◌, ◌≤◌, nat_lt, Bool, true, false, cond, Option, Some, None, List, [], ◌∷◌, ◌++◌, length, take, decimal, get_or, refl, sym, ap, ◌∙◌, subst, arith, inl, inr, append_assoc}
 use Rattle.std.specs.Prelude.{codes, Result, Ok, Err, IfOk}
 use Rattle.std.proofs.lemmas.List.{append-nil}
 use Rattle.hex.specs.Hex.{encode_lower}
@@ -23,12 +23,13 @@ use Rattle.vc_script.specs.Texts.{HasUsedBytes, reply_text, answer_words, takes_
 use Rattle.vc_script.specs.Verb.{verb_name}
 use Rattle.vc_base.specs.declared.Stamp.{Stamp}
 use Rattle.vc_model.specs.Solo.{Claimed}
+use Rattle.vc_worker.specs.Turns.{RoseBy}
 use Rattle.vc_context.specs.Payloads.{empty_hold}
 use Rattle.std.proofs.lemmas.Bool.{true≢false}
 use Rattle.vc_top.specs.declared.desk.Desk.{Desk}
 use Rattle.vc_top.specs.Desks.{after, IsKeptJob, IsAt, IsDesk, IsTaken, front_is, taken_payload, CallDone, ClaimDone, was_busy, was_empty, took, FinishDone, was_idle, ended, ClaimsWith, FinishesWith, IsSomeDesk}
 use Rattle.vc_top.specs.Does.{LineDoes}
-use Rattle.vc_top.specs.Carries.{finishes, RoseBy, IsCounted, LineMade}
+use Rattle.vc_top.specs.Carries.{finishes, IsCounted, LineMade}
 use Rattle.vc_top.proofs.LineTexts.{nothing_does, call_read, call_does, claim_busy, claim_none, claim_took, finish_idles, finish_ends, run_busy, run_none, run_ends}
 
 -- a desk after another history that comes to the same device
@@ -48,13 +49,15 @@ same_at n h g core holds jobs e at =
 -- Counts
 
 no_more : (n m : ℕ) → n ≤ m → RoseBy 0 n m
-no_more n m l = omega (arith, l)
+no_more n m l = inl (omega (arith, l))
 
 one_more : (n m : ℕ) → OneMore n m → RoseBy 1 n m
-one_more n m h = ⊎_elim (λ e. omega (arith, e)) (λ l. omega (arith, l)) h
+one_more n m (inl e) = inl (omega (arith, e))
+one_more n m (inr top) = inr top
 
 rose_more : (n m : ℕ) → Rose n m → RoseBy 1 n m
-rose_more n m h = ⊎_elim (λ l. omega (arith, l)) (λ l. omega (arith, l)) h
+rose_more n m (inl l) = inl (omega (arith, l))
+rose_more n m (inr top) = inr top
 
 no_finish : (runs runs' faults faults' : ℕ) → runs ≤ runs' → faults ≤ faults' → IsCounted [] runs runs' faults faults'
 no_finish runs runs' faults faults' a b = record { ran = no_more runs runs' a; failed = no_more faults faults' b }

@@ -1,5 +1,5 @@
 -- Lines carried out one after another.
-use Rattle.std.proofs.Common.{◌≡◌, ℕ, zero, suc, ◌+◌, ◌≤◌, ◌<◌, Bool, true, false, cond, ◌||◌, List, [], ◌∷◌, ◌++◌, length, take, drop, Option, Some, None, Result, Err, IsErrOf, refl, sym, ◌∙◌, ap, subst, arith, add-one, append_assoc, length-append}
+use Rattle.std.proofs.Common.{◌≡◌, ℕ, zero, suc, ◌+◌, ◌≤◌, ◌<◌, Bool, true, false, cond, ◌||◌, List, [], ◌∷◌, ◌++◌, length, take, drop, Option, Some, None, Result, Err, IsErrOf, refl, sym, ◌∙◌, ap, subst, inl, inr, arith, add-one, append_assoc, length-append}
 use Rattle.std.specs.List.{filter}
 use Rattle.std.proofs.lemmas.List.{append-nil, take_all, take-append-drop}
 use Rattle.std.proofs.Math.Seq.{take-append-add}
@@ -15,7 +15,8 @@ use Rattle.vc_top.specs.declared.script.LineStop.{LineStop}
 use Rattle.vc_top.specs.declared.script.LineStop.TheVariants as stops
 use Rattle.vc_top.specs.declared.status.Status.TheVariants.{WriteFault}
 use Rattle.vc_top.specs.Asking.{asks_line, asks_lines, with_rest}
-use Rattle.vc_top.specs.Carries.{finishes, is_finish, RoseBy, IsCounted}
+use Rattle.vc_top.specs.Carries.{finishes, is_finish, IsCounted}
+use Rattle.vc_worker.specs.Turns.{RoseBy}
 use Rattle.vc_top.specs.Desks.{IsDesk}
 use Rattle.vc_top.specs.Ends.{EngineCounts, Carries, AllWritten, FrontWritten, LinesEnd}
 use Rattle.vc_top.specs.Steps.{LineDone, LineStopped, status_of, status_at_end}
@@ -62,11 +63,17 @@ filter_both f (x ∷ xs) ys = split (f x) (filter_both f xs ys)
     split true h = omega (arith, h)
     split false h = h
 
-finishes_both : (fault : Bool) (xs ys : List DeviceEvent) → finishes fault (xs ++ ys) ≡ finishes fault xs + finishes fault ys
+pub finishes_both : (fault : Bool) (xs ys : List DeviceEvent) → finishes fault (xs ++ ys) ≡ finishes fault xs + finishes fault ys
 finishes_both fault xs ys = filter_both (is_finish fault) xs ys
 
 rose_both : (m k before mid now : ℕ) → RoseBy m before mid → RoseBy k mid now → RoseBy (m + k) before now
-rose_both m k before mid now a b = omega (arith, a, b)
+rose_both m k before mid now (inl some) (inl more) = inl (omega (arith, some, more))
+rose_both m k before mid now (inr top) (inl more) = inr (omega (arith, top, more))
+rose_both m k before mid now a (inr top) = inr top
+
+by_later : (m before mid now : ℕ) → RoseBy m before mid → mid ≤ now → RoseBy m before now
+by_later m before mid now (inl some) l = inl (omega (arith, some, l))
+by_later m before mid now (inr top) l = inr (omega (arith, top, l))
 
 counted_both : (xs ys : List DeviceEvent) (r0 r1 r2 f0 f1 f2 : ℕ) → IsCounted xs r0 r1 f0 f1 → IsCounted ys r1 r2 f1 f2 → IsCounted (xs ++ ys) r0 r2 f0 f2
 counted_both xs ys r0 r1 r2 f0 f1 f2 a b =
@@ -77,7 +84,7 @@ counted_both xs ys r0 r1 r2 f0 f1 f2 a b =
 
 later_counts : (xs : List DeviceEvent) (r0 r1 r2 f0 f1 f2 : ℕ) → IsCounted xs r0 r1 f0 f1 → r1 ≤ r2 → f1 ≤ f2 → IsCounted xs r0 r2 f0 f2
 later_counts xs r0 r1 r2 f0 f1 f2 a r f =
-    record { ran = omega (arith, a.ran, r); failed = omega (arith, a.failed, f) }
+    record { ran = by_later (finishes false xs) r0 r1 r2 a.ran r; failed = by_later (finishes true xs) f0 f1 f2 a.failed f }
 
 -- how far a script was carried out
 pub record SoFar (slots : ℕ) (script rest : List ℕ) (number : ℕ) (faulted : Bool) (desk : Desk) (old new : Option (List ℕ)) (r0 r1 f0 f1 : ℕ) (sink_before sink_now : ℕ) : Type 0 where
@@ -112,7 +119,7 @@ not_begun slots script desk old runs faults sink at steps = record {
   within = omega arith;
   steps = omega (arith, steps);
   written = appends_nothing old;
-  counted = record { ran = omega arith; failed = omega arith };
+  counted = record { ran = inl (omega arith); failed = inl (omega arith) };
   none_yet = λ e. refl;
   some_yet = λ e. absurd (cc);
   sink_later = omega arith;
@@ -273,6 +280,6 @@ none_written slots ls old k =
     record {
       count = 0;
       output = [];
-      carries = record { asked = []; asks = refl; prints = refl; counted = record { ran = omega arith; failed = omega arith } };
+      carries = record { asked = []; asks = refl; prints = refl; counted = record { ran = inl (omega arith); failed = inl (omega arith) } };
       written = (0, omega arith, appends_nothing old);
     }

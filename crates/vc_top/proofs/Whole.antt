@@ -9,7 +9,7 @@ use Rattle.vc_top.specs.declared.status.Status.{Status}
 use Rattle.vc_top.specs.declared.status.Status.TheVariants.{Fine, Usage, ReadFault, WriteFault, BadLine, Damaged, ShortRaw, EngineFault, TooLong, NoMemory}
 use Rattle.vc_top.specs.declared.input.ReadStop.TheVariants as reads
 use Rattle.vc_top.specs.Asking.{asks_line, asks_lines, with_rest}
-use Rattle.vc_top.specs.Carries.{RoseBy}
+use Rattle.vc_worker.specs.Turns.{RoseBy}
 use Rattle.vc_top.specs.Input.{WasRead, Stopped, longest_script}
 use Rattle.vc_top.specs.Ends.{EngineCounts, LinesEnd, ScriptEnds, IsGoodScript, Completes}
 
@@ -59,7 +59,8 @@ no_memory slots (Some input) left old before now = inr refl
 -- Causes
 
 rose_some : (n before now : ℕ) → 0 < n → RoseBy n before now → Rose before now
-rose_some n before now l r = grind arith
+rose_some n before now l (inl more) = inl (omega (arith, l, more))
+rose_some n before now l (inr top) = inr top
 
 pub engine_cause : (slots : ℕ) (ls : List (List ℕ)) (old new : Option (List ℕ)) (before now : EngineCounts) (status : Status) → LinesEnd slots ls old new before now status → status ≡ EngineFault → Rose before.faults now.faults
 engine_cause slots ls old new before now EngineFault e is = rose_some _ before.faults now.faults e.failed e.carries.counted.failed

@@ -1,10 +1,10 @@
 -- What the lines of a script ask for.
-use Rattle.std.specs.Prelude.{ℕ, ◌<◌, Option, Some, None, List, [], ◌∷◌}
+use Rattle.std.specs.Prelude.{ℕ, Option, Some, None, List, [], ◌∷◌}
 use Rattle.std.specs.Option.{option_map}
 use Rattle.vc_script.specs.declared.line.Line.{Line}
 use Rattle.vc_script.specs.declared.line.Line.TheVariants as lines
 use Rattle.vc_script.specs.Lines.{line_of}
-use Rattle.vc_model.specs.Script.{Asked, AsksNothing, AsksCall, AsksClaim, AsksFinish, AsksRun, HasUsedBytes}
+use Rattle.vc_model.specs.Script.{Asked, AsksNothing, AsksCall, AsksClaim, AsksFinish, AsksRun, IsAsked}
 
 -- what a line asks for
 abbrev pub asked_of : Option Line → Asked
@@ -30,8 +30,4 @@ asks_lines slots (line ∷ rest) = with_rest (asks_line slots line) (asks_lines 
 
 -- what a line may ask for among n slots
 abbrev pub IsAskedLine : ℕ → Option Line → Type 0
-IsAskedLine n None = Unit {0}
-IsAskedLine n (Some (lines.Call slot request bytes)) = (slot < n) × HasUsedBytes request bytes
-IsAskedLine n (Some (lines.Claim worker)) = worker < 16
-IsAskedLine n (Some (lines.Finish worker)) = worker < 16
-IsAskedLine n (Some (lines.Run worker)) = worker < 16
+IsAskedLine n line = IsAsked n (asked_of line)

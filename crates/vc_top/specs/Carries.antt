@@ -1,10 +1,10 @@
 -- What carrying out a line comes to.
-use Rattle.std.specs.Prelude.{ℕ, ◌≡◌, ◌+◌, ◌≤◌, min, Bool, true, false, if◌then◌else◌, length, List, ◌++◌}
+use Rattle.std.specs.Prelude.{ℕ, ◌≡◌, Bool, true, false, if◌then◌else◌, length, List, ◌++◌}
 use Rattle.std.specs.List.{filter}
-use Rattle.vc_base.specs.Counts.{top_count}
 use Rattle.vc_base.specs.Device.{DeviceEvent, finish}
 use Rattle.vc_model.specs.Handed.{same_bool}
 use Rattle.vc_model.specs.Script.{Asked}
+use Rattle.vc_worker.specs.Turns.{RoseBy}
 use Rattle.vc_top.specs.declared.desk.Desk.{Desk}
 use Rattle.vc_top.specs.Desks.{after, IsDesk}
 use Rattle.vc_top.specs.Does.{LineDoes}
@@ -17,10 +17,6 @@ is_finish fault e = false
 -- how many jobs ended, with a fault or without
 abbrev pub finishes : Bool → List DeviceEvent → ℕ
 finishes fault events = length (filter (is_finish fault) events)
-
--- a count rose by as many at least, or it stands at its end
-abbrev pub RoseBy : ℕ → ℕ → ℕ → Type 0
-RoseBy many before now = min (before + many) top_count ≤ now
 
 -- The engine counts as many runs as jobs ended without a fault, and as many faults as ended with one, at least.
 pub record IsCounted (events : List DeviceEvent) (runs runs' faults faults' : ℕ) : Type 0 where

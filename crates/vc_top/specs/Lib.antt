@@ -9,6 +9,7 @@ pub mod Engines
 pub mod Flows
 pub mod Input
 pub mod Makes
+pub mod Rows
 pub mod Shares
 pub mod Slots
 pub mod Steps

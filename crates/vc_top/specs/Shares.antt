@@ -1,19 +1,21 @@
 -- How the sharing ends: pictures of the generator, coded in many contexts at once.
-use Rattle.std.specs.Prelude.{ℕ, ◌≡◌, ◌⊎◌, ◌+◌, ◌*◌, List, [], ◌∷◌, ◌++◌, codes, Option, Result, Ok, Err}
+use Rattle.std.specs.Prelude.{ℕ, ◌≡◌, ◌⊎◌, ◌+◌, ◌*◌, List, [], ◌∷◌, ◌++◌, codes, Option, Some, Result, Ok, Err}
 use Rattle.std.specs.List.{flat_map, range_with_len}
 use Rattle.std.specs.Fmt.{decimal}
 use Rattle.std.specs.Io.KnownBytes.{Appends}
 use Rattle.vc_base.specs.Counts.{Rose}
-use Rattle.vc_defs.specs.Outputs.{share_line}
+use Rattle.vc_defs.specs.Outputs.{share_line, share_output}
 use Rattle.vc_encode_flow.specs.declared.ends.FlowEnd.{FlowEnd}
 use Rattle.vc_encode_flow.specs.declared.tallying.Tally.{Tally}
 use Rattle.vc_encode_flow.specs.Shares.{generated_bytes}
 use Rattle.vc_io.specs.Written.{AppendsFront}
+use Rattle.vc_words.specs.declared.command.Command.TheVariants.{Share}
 use Rattle.vc_words.specs.declared.command.ShareOptions.{ShareOptions}
 use Rattle.vc_top.specs.declared.flows.ShareFlow.{ShareFlow}
 use Rattle.vc_top.specs.declared.status.Status.{Status}
 use Rattle.vc_top.specs.declared.status.Status.TheVariants.{Fine, Usage, ReadFault, WriteFault, BadLine, Damaged, ShortRaw, EngineFault, TooLong, NoMemory}
 use Rattle.vc_top.specs.Engines.{OneRose}
+use Rattle.vc_top.specs.Words.{asked_command}
 
 -- the frames of a context: those of the generator's pictures for a number of its own
 abbrev pub context_frames : ShareOptions → ℕ → List ℕ
@@ -26,6 +28,11 @@ context_line options context = share_line context options.pictures (context_fram
 -- the lines of all contexts
 unfoldable pub share_lines : ShareOptions → List ℕ
 share_lines options = flat_map (context_line options) (range_with_len 0 options.contexts)
+
+-- For options that words ask for, the lines are the defined output of the sharing.
+abbrev pub ShareLinesAreDefined : Type 0
+ShareLinesAreDefined =
+    (words : List (List ℕ)) (options : ShareOptions) → asked_command words ≡ Some (Share options) → share_lines options ≡ share_output options.contexts options.format.width options.format.height options.pictures options.number
 
 -- how many frames the contexts make together
 abbrev pub share_count : ShareOptions → ℕ

@@ -51,7 +51,9 @@ fn script_on<S: Source, K: Sink, E: Engine>(
     }
 }
 
-/// Reads a script whole, carries out its lines and prints what they answer.
+/// Reads a script whole, carries out its lines and prints what they answer. `slots` is 1 to 1,024. A script has at most
+/// 1,048,576 bytes and is read whole first. It waits for nobody but source and sink. It never answers `Usage`, `Damaged`
+/// or `ShortRaw`.
 pub fn script_run<S: Source, K: Sink>(
     alloc: Global,
     slots: u32,
@@ -89,7 +91,7 @@ fn make_run<K: Sink>(alloc: Global, options: &MakeOptions, sink: &mut K) -> Stat
 }
 
 /// Does all that the program does, on the words behind its name. It uses the first engines of the list, one for each
-/// worker, and leaves them in their order. It may wait for its workers.
+/// worker and the first one for scripts; 16 come back, and those not used are untouched. It may wait for its workers.
 pub fn top<R: Threads + Wait + Sync, S: Source, K: Sink>(
     rt: &R,
     alloc: Global,

@@ -1,8 +1,9 @@
-//! Laws of the output of scripts, proved from the definitions alone.
+//! Laws of the output of scripts and of the sharing, proved from the definitions alone.
 
 ghost use Rattle.vc_model.specs.Script.{IsLineText};
 ghost use Rattle.vc_script.specs.Texts.{reply_text};
-ghost use Rattle.vc_top.specs.Slots.{OwnLines, SameLines};
+ghost use Rattle.vc_top.specs.Shares.{ShareLinesAreDefined};
+ghost use Rattle.vc_top.specs.Slots.{FinishLinesAreCounted, LinesAsk, OwnLines, SameLines, ScriptIsHonest, TextsAreOne};
 
 /// The answer to each call is one line of its slot, and no line of a finish.
 pub fn answers_are_lines()
@@ -14,4 +15,25 @@ pub fn answers_are_lines()
 pub fn slots_print_their_own()
     ensures own { OwnLines }
     ensures same { SameLines }
+{}
+
+/// What the lines of a script ask for can be asked, so each slot's events in it are honest.
+pub fn scripts_are_honest()
+    ensures asked { LinesAsk }
+    ensures honest { ScriptIsHonest }
+{}
+
+/// The lines that finishes print are as many as the jobs that ended, with a fault and without.
+pub fn finish_lines_are_counted()
+    ensures { FinishLinesAreCounted }
+{}
+
+/// The texts of claims and finishes in the model of scripts are those that are printed.
+pub fn texts_are_one()
+    ensures { TextsAreOne }
+{}
+
+/// The lines that the sharing writes, for options that words can ask for, are its defined output.
+pub fn share_lines_are_defined()
+    ensures { ShareLinesAreDefined }
 {}

@@ -12,6 +12,7 @@ mod encode;
 mod flows;
 mod input;
 pub mod laws;
+pub mod rows;
 mod script;
 mod share;
 mod status;

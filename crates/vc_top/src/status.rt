@@ -1,24 +1,25 @@
 /// How a command ended.
 #[derive(Clone, Copy, Debug, PartialEq, Eq)]
 pub enum Status {
-    /// The whole input was carried out and all output was written.
+    /// The input was read to its end (`make` and `share` read none) and all output was written. Exit status 0.
     Fine,
-    /// The words are none of the command line's grammar.
+    /// The words ask for none of the commands that are built. Nothing was read, written or run. Exit status 2.
     Usage,
-    /// The input could not be read.
+    /// The input could not be read. Exit status 3.
     ReadFault,
-    /// The output could not be written.
+    /// The output could not be written. Exit status 4.
     WriteFault,
-    /// The line, counted from 1, is the first that isn't in the grammar of scripts.
+    /// The line, counted from 1, is the first that isn't in the grammar of scripts. Exit status 5.
     BadLine { line: u64 },
-    /// The coded input has a damaged frame, or a byte in no frame. Every good picture was written.
+    /// The coded input has a damaged frame, or a byte in no frame. Every good picture was written. Exit status 6.
     Damaged,
-    /// The raw input ends inside a picture. The frames of the whole ones were written.
+    /// The raw input ends inside a picture. The frames of the whole ones were written. Exit status 7.
     ShortRaw,
-    /// An engine gave up in a job. A script was carried out to its end all the same.
+    /// An engine gave up in a job. A script was carried out to its end all the same; `encode` and `decode` stopped, and
+    /// `share` wrote nothing. Exit status 8.
     EngineFault,
-    /// The script has more than 1,048,576 bytes, or 2^40 bytes of video were read.
+    /// The script has more than 1,048,576 bytes, or 2^40 bytes of video were read. Exit status 10.
     TooLong,
-    /// A growth of memory was refused.
+    /// A growth of memory was refused. Exit status 12.
     NoMemory,
 }

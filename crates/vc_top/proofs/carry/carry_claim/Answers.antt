@@ -5,7 +5,7 @@ use Rattle.vc_top.proofs.carry.carry_claim.Goals as goal
 
 pub returns-then-is_busy-clause-done : goal.returns-then-is_busy-clause-done
 returns-then-is_busy-clause-done c = λ n history at.
-    (busy_text, c.in_ok-put_busy.ensures.ok, busy_done n history c.args.worker c.args.desk.now at c.requires.worker (sym c.is_busy.ensures ∙ c.if-is_busy.true))
+    (busy_text, c.in_ok-put_busy.ensures.ok, busy_done n history c.args.worker c.args.desk.now at c.requires.worker (sym c.is_busy.ensures ∙ assumption))
 
 pub claim-requires-clause-free : goal.claim-requires-clause-free
 claim-requires-clause-free c =
