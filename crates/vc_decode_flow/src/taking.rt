@@ -5,8 +5,8 @@ ghost use Rattle.vc_base.specs.declared.Side.TheVariants.{Cap};
 ghost use Rattle.vc_model.specs.Places.{has_error};
 ghost use Rattle.vc_model.specs.Solo.{SoloEvent};
 ghost use Rattle.vc_queue.specs.Holds.{held_payload};
-ghost use Rattle.vc_port.specs.Payloads.{bytes_out};
-ghost use Rattle.vc_encode_flow.specs.Flows.{HandedFirst, fault_finishes};
+ghost use Rattle.vc_port.specs.Payloads.{bytes_out, faulty_finishes};
+ghost use Rattle.vc_encode_flow.specs.Flows.{HandedFirst};
 ghost use Rattle.vc_encode_flow.specs.Steps.{IsThere};
 ghost use Rattle.vc_stream_laws.specs.Streams.{StreamSoFar, IsStream, IsUnspoilt};
 ghost use Rattle.vc_decode_flow.specs.Steps.{KeepsCaptures, HasTaken, with_stop};
@@ -142,7 +142,7 @@ fn take_source<P: PayloadPort>(port: &mut P) -> Result<bool, Stop>
     ensures follows { P.follows port.old port.new }
     ensures goes_on { (start : List SoloEvent) (f : StreamSoFar) → IsStream start f (P.events port.old) → IfOk result (λ more. more ≡ true → IsStream start f (P.events port.new)) }
     ensures none { (start : List SoloEvent) (f : StreamSoFar) → IsStream start f (P.events port.old) → IfOk result (λ more. more ≡ false → IsUnspoilt start f (P.events port.new)) }
-    ensures engine { (start : List SoloEvent) (f : StreamSoFar) → IsStream start f (P.events port.old) → IsErrOf result Stop.EngineFault → fault_finishes start < fault_finishes (P.events port.new) }
+    ensures engine { (start : List SoloEvent) (f : StreamSoFar) → IsStream start f (P.events port.old) → IsErrOf result Stop.EngineFault → faulty_finishes start < faulty_finishes (P.events port.new) }
     ensures payloads { OnOk result (KeepsCaptures (P.hold port.old) (P.hold port.new)) }
     ensures bytes { bytes_out (P.events port.new) ≡ bytes_out (P.events port.old) }
     ensures stops { IfErr result (λ stop. (stop ≢ Stop.ReadFault) × (stop ≢ Stop.WriteFault) × (stop ≢ Stop.TooLong)) }
@@ -172,7 +172,7 @@ pub(crate) fn take_sources<P: PayloadPort>(port: &mut P) -> Result<(), Stop>
     ensures ready { P.ready port.new }
     ensures follows { P.follows port.old port.new }
     ensures unspoilt { (start : List SoloEvent) (f : StreamSoFar) → IsStream start f (P.events port.old) → OnOk result (IsUnspoilt start f (P.events port.new)) }
-    ensures engine { (start : List SoloEvent) (f : StreamSoFar) → IsStream start f (P.events port.old) → IsErrOf result Stop.EngineFault → fault_finishes start < fault_finishes (P.events port.new) }
+    ensures engine { (start : List SoloEvent) (f : StreamSoFar) → IsStream start f (P.events port.old) → IsErrOf result Stop.EngineFault → faulty_finishes start < faulty_finishes (P.events port.new) }
     ensures payloads { OnOk result (KeepsCaptures (P.hold port.old) (P.hold port.new)) }
     ensures bytes { bytes_out (P.events port.new) ≡ bytes_out (P.events port.old) }
     ensures stops { IfErr result (λ stop. (stop ≢ Stop.ReadFault) × (stop ≢ Stop.WriteFault) × (stop ≢ Stop.TooLong)) }
