@@ -11,13 +11,13 @@ use Rattle.vc_model.specs.Devices.{new_device, device_run, entries_of}
 use Rattle.vc_model.specs.Standing.{CoreState}
 use Rattle.vc_model.specs.Seats.{OwnedSeat, AreSeatsOf}
 use Rattle.vc_model.proofs.Isolating.{isolated}
-use Rattle.vc_port.specs.Payloads.{told_at, good_finishes}
+use Rattle.vc_port.specs.Payloads.{told_at, good_finishes, faulty_finishes}
 use Rattle.vc_shared.specs.Handles.{DeviceId, HandleState, new_handle, slot_events}
 use Rattle.vc_shared.specs.Workers.{WorkerState}
 use Rattle.vc_shared.specs.Closing.{owned_handle, owned_worker, IsClosed, AreHandlesOf}
 use Rattle.vc_crew.specs.Workers.{HaveWorked}
 use Rattle.vc_crew.specs.Flowing.{HasFlowed, HaveFlowed}
-use Rattle.vc_crew.specs.Together.{EachRan, RanTogether, bad_finishes}
+use Rattle.vc_crew.specs.Together.{EachRan, RanTogether}
 use Rattle.vc_crew.proofs.Slots.{on_slots, ends_on_slots, finishes_grow}
 use Rattle.vc_crew.proofs.Shares.{shares_of, shares_are_enough, runs_rose, faults_rose}
 use Rattle.vc_crew.proofs.Alone.{first_worked, given_back, of_workers}
@@ -38,13 +38,13 @@ record Went {F End : Type 0} (does : F → List SoloEvent → List SoloEvent →
   slots : List (List SoloEvent)
   did : EachRan does fs fs' ends slots
   good_ends : sum_by good_finishes slots ≤ good
-  bad_ends : sum_by bad_finishes slots ≤ bad
+  bad_ends : sum_by faulty_finishes slots ≤ bad
 
 went : {F End : Type 0} (does : F → List SoloEvent → List SoloEvent → End → F → Type 0) (device : DeviceId) (number : ℕ) (fs fs' : List F) (es : List End) (hs : List HandleState) (history : List DeviceEvent) (others : List OwnedSeat) → HaveFlowed does device number fs fs' es hs → AreSeatsOf history (map owned_handle hs ++ others) → Went does fs fs' es (on_slots false (new_device device.slots) history number hs) (on_slots true (new_device device.slots) history number hs)
 unfolding on_slots
 went does device number [] [] [] [] history others have seats =
     let good : sum_by good_finishes ([]) ≡ 0 = refl in
-    let bad : sum_by bad_finishes ([]) ≡ 0 = refl in
+    let bad : sum_by faulty_finishes ([]) ≡ 0 = refl in
     record { slots = []; did = tt; good_ends = omega (arith, good); bad_ends = omega (arith, bad) }
 went does device number (f ∷ fs) (f' ∷ fs') (e ∷ es) (h ∷ hs) history others have seats =
     let flowed = have.0 in
@@ -53,7 +53,7 @@ went does device number (f ∷ fs) (f' ∷ fs') (e ∷ es) (h ∷ hs) history ot
     let good = slot_ends does f f' e device number h history false flowed seats.0.seen in
     let bad = slot_ends does f f' e device number h history true flowed seats.0.seen in
     let all_good = sum_by-cons good_finishes events rest.slots in
-    let all_bad = sum_by-cons bad_finishes events rest.slots in record {
+    let all_bad = sum_by-cons faulty_finishes events rest.slots in record {
       slots = events ∷ rest.slots;
       did = (flowed.did, rest.did);
       good_ends = let r = rest.good_ends in omega (arith, good, all_good, r);

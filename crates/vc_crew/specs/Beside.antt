@@ -1,8 +1,7 @@
 -- What a flow beside workers did.
-use Rattle.std.specs.Prelude.{ℕ, true, List, []}
+use Rattle.std.specs.Prelude.{ℕ, List, []}
 use Rattle.vc_model.specs.Solo.{SoloEvent}
-use Rattle.vc_model.specs.Handed.{finishes_by_fault}
-use Rattle.vc_port.specs.Payloads.{told_at, good_finishes}
+use Rattle.vc_port.specs.Payloads.{good_finishes, faulty_finishes}
 use Rattle.vc_crew.specs.Rising.{RoseTogether}
 
 -- The flow went over the events of a slot that was closed at first. The jobs that were finished there without a fault are at most
@@ -11,4 +10,4 @@ pub record RanBeside {F End : Type 0} (does : F → List SoloEvent → List Solo
   pub events : List SoloEvent
   pub did : does flow [] events end flow'
   pub ran : RoseTogether (good_finishes events) runs runs'
-  pub failed : RoseTogether (finishes_by_fault true (told_at events)) faults faults'
+  pub failed : RoseTogether (faulty_finishes events) faults faults'

@@ -1,8 +1,7 @@
 -- What several flows beside workers did.
-use Rattle.std.specs.Prelude.{ℕ, true, List, [], ◌∷◌, sum_by}
+use Rattle.std.specs.Prelude.{ℕ, List, [], ◌∷◌, sum_by}
 use Rattle.vc_model.specs.Solo.{SoloEvent}
-use Rattle.vc_model.specs.Handed.{finishes_by_fault}
-use Rattle.vc_port.specs.Payloads.{told_at, good_finishes}
+use Rattle.vc_port.specs.Payloads.{good_finishes, faulty_finishes}
 use Rattle.vc_crew.specs.Rising.{RoseTogether}
 
 -- Each flow went over the events of a slot of its own that was closed at first, and ended so.
@@ -16,14 +15,10 @@ EachRan does (f ∷ fs) [] ends events = ⊥
 EachRan does (f ∷ fs) (f' ∷ fs') [] events = ⊥
 EachRan does (f ∷ fs) (f' ∷ fs') (end ∷ ends) [] = ⊥
 
--- the jobs that were finished with a fault
-abbrev pub bad_finishes : List SoloEvent → ℕ
-bad_finishes events = finishes_by_fault true (told_at events)
-
 -- The flows went each over the events of a slot of its own. The jobs that were finished on all these slots without a fault are at
 -- most the rise of the engines' counts of runs together, and those with a fault at most the rise of their counts of faults.
 pub record RanTogether {F End : Type 0} (does : F → List SoloEvent → List SoloEvent → End → F → Type 0) (flows flows' : List F) (ends : List End) (runs runs' faults faults' : List ℕ) : Type 0 where
   pub slots : List (List SoloEvent)
   pub did : EachRan does flows flows' ends slots
   pub ran : RoseTogether (sum_by good_finishes slots) runs runs'
-  pub failed : RoseTogether (sum_by bad_finishes slots) faults faults'
+  pub failed : RoseTogether (sum_by faulty_finishes slots) faults faults'

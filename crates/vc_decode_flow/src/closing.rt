@@ -1,8 +1,7 @@
 //! Closes the slot of a flow.
 
 ghost use Rattle.std.specs.Prelude.{◌≡◌, ◌≤◌, None};
-ghost use Rattle.vc_port.specs.Payloads.{slot_after, bytes_out, good_finishes};
-ghost use Rattle.vc_encode_flow.specs.Flows.{fault_finishes};
+ghost use Rattle.vc_port.specs.Payloads.{slot_after, bytes_out, good_finishes, faulty_finishes};
 
 use std::sync::Wait;
 use vc_base::Call;
@@ -17,7 +16,7 @@ pub(crate) fn close_slot<R: Wait, P: PayloadPort>(rt: &R, port: &mut P)
     ensures closed { slot_after (P.events port.new) ≡ None }
     ensures bytes { bytes_out (P.events port.new) ≡ bytes_out (P.events port.old) }
     ensures finishes { good_finishes (P.events port.old) ≤ good_finishes (P.events port.new) }
-    ensures faults { fault_finishes (P.events port.old) ≤ fault_finishes (P.events port.new) }
+    ensures faults { faulty_finishes (P.events port.old) ≤ faulty_finishes (P.events port.new) }
 {
     let _told = wait_on(rt, port, &Call::Close);
 }

@@ -3,8 +3,7 @@
 ghost use Rattle.std.specs.Prelude.{◌≡◌, ◌≢◌, ◌<◌, ◌≤◌, ℕ, true, false, Bool, List, Option, OnOk, IfOk, OnErr, IfErr, IsErrOf};
 ghost use Rattle.vc_base.specs.Counts.{Rose};
 ghost use Rattle.vc_model.specs.Solo.{SoloEvent};
-ghost use Rattle.vc_port.specs.Payloads.{bytes_out};
-ghost use Rattle.vc_encode_flow.specs.Flows.{fault_finishes};
+ghost use Rattle.vc_port.specs.Payloads.{bytes_out, faulty_finishes};
 ghost use Rattle.vc_stream_laws.specs.Streams.{StreamSoFar, not_known, some_stop, IsStream, IsUnspoilt, IsDecoded};
 ghost use Rattle.vc_decode_flow.specs.Steps.{with_end, with_change, IsGoing, HasStopped, StopsEarly};
 ghost use Rattle.vc_decode_flow.specs.Endings.{IsDrained};
@@ -87,7 +86,7 @@ fn finish_drain<R: Wait, P: PayloadPort, K: Sink>(
     ensures follows { P.follows port.old port.new }
     ensures drained { (start : List SoloEvent) (queued : List ℕ) (first : Option (List ℕ)) → IsGoing start queued before true not_known first (K.written sink.old) (P.events port.old) → IfOk result (λ damaged. IsDrained start queued damaged first (K.written sink.new) (P.events port.new)) }
     ensures cut { (start : List SoloEvent) (queued : List ℕ) (first : Option (List ℕ)) → IsGoing start queued before true not_known first (K.written sink.old) (P.events port.old) → OnErr result (StopsEarly start queued first (K.written sink.new) (P.events port.new)) }
-    ensures engine { (start : List SoloEvent) (queued : List ℕ) (first : Option (List ℕ)) → IsGoing start queued before true not_known first (K.written sink.old) (P.events port.old) → IsErrOf result Stop.EngineFault → fault_finishes start < fault_finishes (P.events port.new) }
+    ensures engine { (start : List SoloEvent) (queued : List ℕ) (first : Option (List ℕ)) → IsGoing start queued before true not_known first (K.written sink.old) (P.events port.old) → IsErrOf result Stop.EngineFault → faulty_finishes start < faulty_finishes (P.events port.new) }
     ensures later { K.faults sink.old ≤ K.faults sink.new }
     ensures write { IsErrOf result Stop.WriteFault → Rose (K.faults sink.old) (K.faults sink.new) }
     ensures stops { IfErr result (λ stop. (stop ≢ Stop.ReadFault) × (stop ≢ Stop.TooLong)) }
@@ -123,7 +122,7 @@ pub(crate) fn drain<R: Wait, P: PayloadPort, K: Sink>(
     ensures follows { P.follows port.old port.new }
     ensures drained { (start : List SoloEvent) (queued : List ℕ) (first : Option (List ℕ)) → IsGoing start queued before false not_known first (K.written sink.old) (P.events port.old) → IfOk result (λ damaged. IsDrained start queued damaged first (K.written sink.new) (P.events port.new)) }
     ensures cut { (start : List SoloEvent) (queued : List ℕ) (first : Option (List ℕ)) → IsGoing start queued before false not_known first (K.written sink.old) (P.events port.old) → OnErr result (StopsEarly start queued first (K.written sink.new) (P.events port.new)) }
-    ensures engine { (start : List SoloEvent) (queued : List ℕ) (first : Option (List ℕ)) → IsGoing start queued before false not_known first (K.written sink.old) (P.events port.old) → IsErrOf result Stop.EngineFault → fault_finishes start < fault_finishes (P.events port.new) }
+    ensures engine { (start : List SoloEvent) (queued : List ℕ) (first : Option (List ℕ)) → IsGoing start queued before false not_known first (K.written sink.old) (P.events port.old) → IsErrOf result Stop.EngineFault → faulty_finishes start < faulty_finishes (P.events port.new) }
     ensures later { K.faults sink.old ≤ K.faults sink.new }
     ensures write { IsErrOf result Stop.WriteFault → Rose (K.faults sink.old) (K.faults sink.new) }
     ensures stops { IfErr result (λ stop. (stop ≢ Stop.ReadFault) × (stop ≢ Stop.TooLong)) }

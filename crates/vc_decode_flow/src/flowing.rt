@@ -3,9 +3,8 @@
 ghost use Rattle.std.specs.Prelude.{◌≡◌, ◌≢◌, ◌<◌, ◌≤◌, ℕ, true, false, None, List, Option, Ok, Err, OnOk, OnErr, IfOk, IfErr, IsErrOf};
 ghost use Rattle.vc_base.specs.Counts.{Rose};
 ghost use Rattle.vc_model.specs.Solo.{SoloEvent};
-ghost use Rattle.vc_port.specs.Payloads.{slot_after};
+ghost use Rattle.vc_port.specs.Payloads.{slot_after, faulty_finishes};
 ghost use Rattle.vc_encode_flow.specs.Endings.{IsLong};
-ghost use Rattle.vc_encode_flow.specs.Flows.{fault_finishes};
 ghost use Rattle.vc_decode_flow.specs.Steps.{IsSeeking, IsDecoding, IsCutShort};
 ghost use Rattle.vc_decode_flow.specs.Endings.{IsAllWritten, IsThrough, IsWritten, IsFrontWritten};
 
@@ -39,7 +38,7 @@ fn decode_input<R: Wait, P: PayloadPort, S: Source, K: Sink>(
     ensures ended { OnOk result (reading.new.ended ≡ true) }
     ensures cut { (start : List SoloEvent) (first left : Option (List ℕ)) → IsDecoding start false first (K.written sink.old) left (S.left source.old) reading.old.coverage reading.old.ended (P.events port.old) → OnErr result (IsCutShort start first (K.written sink.new) left (P.events port.new)) }
     ensures long { (start : List SoloEvent) (first left : Option (List ℕ)) → IsDecoding start false first (K.written sink.old) left (S.left source.old) reading.old.coverage reading.old.ended (P.events port.old) → IsErrOf result Stop.TooLong → IsLong left (S.left source.new) }
-    ensures engine { (start : List SoloEvent) (first left : Option (List ℕ)) → IsDecoding start false first (K.written sink.old) left (S.left source.old) reading.old.coverage reading.old.ended (P.events port.old) → IsErrOf result Stop.EngineFault → fault_finishes start < fault_finishes (P.events port.new) }
+    ensures engine { (start : List SoloEvent) (first left : Option (List ℕ)) → IsDecoding start false first (K.written sink.old) left (S.left source.old) reading.old.coverage reading.old.ended (P.events port.old) → IsErrOf result Stop.EngineFault → faulty_finishes start < faulty_finishes (P.events port.new) }
     ensures source_later { S.faults source.old ≤ S.faults source.new }
     ensures sink_later { K.faults sink.old ≤ K.faults sink.new }
     ensures read { IsErrOf result Stop.ReadFault → Rose (S.faults source.old) (S.faults source.new) }
@@ -84,7 +83,7 @@ fn decode_all<R: Wait, P: PayloadPort, S: Source, K: Sink>(
     ensures all { (start : List SoloEvent) (left : Option (List ℕ)) → IsSeeking start left (S.left source.old) reading.old.coverage reading.old.ended (P.events port.old) → IfOk result (λ damaged. IsAllWritten start damaged (K.written sink.old) (K.written sink.new) left (S.left source.new) reading.new.coverage (P.events port.new)) }
     ensures cut { (start : List SoloEvent) (left : Option (List ℕ)) → IsSeeking start left (S.left source.old) reading.old.coverage reading.old.ended (P.events port.old) → OnErr result (IsCutShort start (K.written sink.old) (K.written sink.new) left (P.events port.new)) }
     ensures long { (start : List SoloEvent) (left : Option (List ℕ)) → IsSeeking start left (S.left source.old) reading.old.coverage reading.old.ended (P.events port.old) → IsErrOf result Stop.TooLong → IsLong left (S.left source.new) }
-    ensures engine { (start : List SoloEvent) (left : Option (List ℕ)) → IsSeeking start left (S.left source.old) reading.old.coverage reading.old.ended (P.events port.old) → IsErrOf result Stop.EngineFault → fault_finishes start < fault_finishes (P.events port.new) }
+    ensures engine { (start : List SoloEvent) (left : Option (List ℕ)) → IsSeeking start left (S.left source.old) reading.old.coverage reading.old.ended (P.events port.old) → IsErrOf result Stop.EngineFault → faulty_finishes start < faulty_finishes (P.events port.new) }
     ensures source_later { S.faults source.old ≤ S.faults source.new }
     ensures sink_later { K.faults sink.old ≤ K.faults sink.new }
     ensures read { IsErrOf result Stop.ReadFault → Rose (S.faults source.old) (S.faults source.new) }
@@ -111,7 +110,7 @@ fn decode_open<R: Wait, P: PayloadPort, S: Source, K: Sink>(
     ensures all { (start : List SoloEvent) (left : Option (List ℕ)) → IsSeeking start left (S.left source.old) reading.old.coverage reading.old.ended (P.events port.old) → IfOk result (λ damaged. IsAllWritten start damaged (K.written sink.old) (K.written sink.new) left (S.left source.new) reading.new.coverage (P.events port.new)) }
     ensures cut { (start : List SoloEvent) (left : Option (List ℕ)) → IsSeeking start left (S.left source.old) reading.old.coverage reading.old.ended (P.events port.old) → OnErr result (IsCutShort start (K.written sink.old) (K.written sink.new) left (P.events port.new)) }
     ensures long { (start : List SoloEvent) (left : Option (List ℕ)) → IsSeeking start left (S.left source.old) reading.old.coverage reading.old.ended (P.events port.old) → IsErrOf result Stop.TooLong → IsLong left (S.left source.new) }
-    ensures engine { (start : List SoloEvent) (left : Option (List ℕ)) → IsSeeking start left (S.left source.old) reading.old.coverage reading.old.ended (P.events port.old) → IsErrOf result Stop.EngineFault → fault_finishes start < fault_finishes (P.events port.new) }
+    ensures engine { (start : List SoloEvent) (left : Option (List ℕ)) → IsSeeking start left (S.left source.old) reading.old.coverage reading.old.ended (P.events port.old) → IsErrOf result Stop.EngineFault → faulty_finishes start < faulty_finishes (P.events port.new) }
     ensures source_later { S.faults source.old ≤ S.faults source.new }
     ensures sink_later { K.faults sink.old ≤ K.faults sink.new }
     ensures read { IsErrOf result Stop.ReadFault → Rose (S.faults source.old) (S.faults source.new) }
@@ -143,7 +142,7 @@ fn run_flow<R: Wait, P: PayloadPort, S: Source, K: Sink>(
     ensures through { IfOk result (λ damaged. IsThrough (P.events port.old) damaged (K.written sink.old) (K.written sink.new) (S.left source.old) (S.left source.new) (P.events port.new)) }
     ensures cut { OnErr result (IsCutShort (P.events port.old) (K.written sink.old) (K.written sink.new) (S.left source.old) (P.events port.new)) }
     ensures long { IsErrOf result Stop.TooLong → IsLong (S.left source.old) (S.left source.new) }
-    ensures engine { IsErrOf result Stop.EngineFault → fault_finishes (P.events port.old) < fault_finishes (P.events port.new) }
+    ensures engine { IsErrOf result Stop.EngineFault → faulty_finishes (P.events port.old) < faulty_finishes (P.events port.new) }
     ensures source_later { S.faults source.old ≤ S.faults source.new }
     ensures sink_later { K.faults sink.old ≤ K.faults sink.new }
     ensures read { IsErrOf result Stop.ReadFault → Rose (S.faults source.old) (S.faults source.new) }
@@ -211,7 +210,7 @@ pub fn decode_on<R: Wait, P: PayloadPort, S: Source, K: Sink>(
     ensures sink_later { K.faults sink.old ≤ K.faults sink.new }
     ensures read { result ≡ FlowEnd.ReadFault → Rose (S.faults source.old) (S.faults source.new) }
     ensures write { result ≡ FlowEnd.WriteFault → Rose (K.faults sink.old) (K.faults sink.new) }
-    ensures engine { result ≡ FlowEnd.EngineFault → fault_finishes (P.events port.old) < fault_finishes (P.events port.new) }
+    ensures engine { result ≡ FlowEnd.EngineFault → faulty_finishes (P.events port.old) < faulty_finishes (P.events port.new) }
     ensures long { result ≡ FlowEnd.TooLong → IsLong (S.left source.old) (S.left source.new) }
     ensures no_raw { result ≢ FlowEnd.ShortRaw }
 {

@@ -7,7 +7,7 @@ ghost use Rattle.vc_base.specs.Counts.{Rose};
 ghost use Rattle.vc_io.specs.Written.{AppendsFront};
 ghost use Rattle.vc_model.specs.Solo.{SoloEvent};
 ghost use Rattle.vc_queue.specs.Holds.{held_payload};
-ghost use Rattle.vc_encode_flow.specs.Flows.{fault_finishes};
+ghost use Rattle.vc_port.specs.Payloads.{faulty_finishes};
 ghost use Rattle.vc_encode_flow.specs.Steps.{IsThere, HasBytes};
 ghost use Rattle.vc_stream_laws.specs.Streams.{StreamSoFar, not_known};
 ghost use Rattle.vc_decode_flow.specs.Steps.{IsToWrite, HasWritten, StopsEarly, IsGoing, HasStopped};
@@ -91,7 +91,7 @@ pub(crate) fn go_round<R: Wait, P: PayloadPort, K: Sink>(
     ensures goes { (start : List SoloEvent) (queued : List ℕ) (damaged ends : Bool) (first : Option (List ℕ)) → IsGoing start queued damaged ends not_known first (K.written sink.old) (P.events port.old) → IfOk result (λ round. round.last ≡ false → IsGoing start queued (damaged || round.damaged) ends not_known first (K.written sink.new) (P.events port.new)) }
     ensures stopped { (start : List SoloEvent) (queued : List ℕ) (damaged ends : Bool) (first : Option (List ℕ)) → IsGoing start queued damaged ends not_known first (K.written sink.old) (P.events port.old) → IfOk result (λ round. round.last ≡ true → HasStopped start queued (damaged || round.damaged) ends first (K.written sink.new) (P.events port.new)) }
     ensures cut { (start : List SoloEvent) (queued : List ℕ) (damaged ends : Bool) (first : Option (List ℕ)) → IsGoing start queued damaged ends not_known first (K.written sink.old) (P.events port.old) → OnErr result (StopsEarly start queued first (K.written sink.new) (P.events port.new)) }
-    ensures engine { (start : List SoloEvent) (queued : List ℕ) (damaged ends : Bool) (first : Option (List ℕ)) → IsGoing start queued damaged ends not_known first (K.written sink.old) (P.events port.old) → IsErrOf result Stop.EngineFault → fault_finishes start < fault_finishes (P.events port.new) }
+    ensures engine { (start : List SoloEvent) (queued : List ℕ) (damaged ends : Bool) (first : Option (List ℕ)) → IsGoing start queued damaged ends not_known first (K.written sink.old) (P.events port.old) → IsErrOf result Stop.EngineFault → faulty_finishes start < faulty_finishes (P.events port.new) }
     ensures later { K.faults sink.old ≤ K.faults sink.new }
     ensures write { IsErrOf result Stop.WriteFault → Rose (K.faults sink.old) (K.faults sink.new) }
     ensures stops { IfErr result (λ stop. (stop ≢ Stop.ReadFault) × (stop ≢ Stop.TooLong)) }

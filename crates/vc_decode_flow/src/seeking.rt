@@ -3,9 +3,8 @@
 ghost use Rattle.std.specs.Prelude.{◌≡◌, ◌≢◌, ◌<◌, ◌≤◌, ℕ, true, false, List, Option, OnOk, IfOk, OnErr, IfErr, IsErrOf};
 ghost use Rattle.vc_base.specs.Counts.{Rose};
 ghost use Rattle.vc_model.specs.Solo.{SoloEvent};
-ghost use Rattle.vc_port.specs.Payloads.{bytes_out};
+ghost use Rattle.vc_port.specs.Payloads.{bytes_out, faulty_finishes};
 ghost use Rattle.vc_encode_flow.specs.Endings.{IsLong};
-ghost use Rattle.vc_encode_flow.specs.Flows.{fault_finishes};
 ghost use Rattle.vc_decode_flow.specs.Steps.{IsSeeking};
 
 use crate::ends::Stop;
@@ -32,7 +31,7 @@ pub(crate) fn find_geometry<R: Wait, P: PayloadPort, S: Source>(
     ensures ended { IfOk result (λ found. found ≡ false → reading.new.ended ≡ true) }
     ensures bytes { bytes_out (P.events port.new) ≡ bytes_out (P.events port.old) }
     ensures long { (start : List SoloEvent) (left : Option (List ℕ)) → IsSeeking start left (S.left source.old) reading.old.coverage reading.old.ended (P.events port.old) → IsErrOf result Stop.TooLong → IsLong left (S.left source.new) }
-    ensures engine { (start : List SoloEvent) (left : Option (List ℕ)) → IsSeeking start left (S.left source.old) reading.old.coverage reading.old.ended (P.events port.old) → IsErrOf result Stop.EngineFault → fault_finishes start < fault_finishes (P.events port.new) }
+    ensures engine { (start : List SoloEvent) (left : Option (List ℕ)) → IsSeeking start left (S.left source.old) reading.old.coverage reading.old.ended (P.events port.old) → IsErrOf result Stop.EngineFault → faulty_finishes start < faulty_finishes (P.events port.new) }
     ensures later { S.faults source.old ≤ S.faults source.new }
     ensures fault { IsErrOf result Stop.ReadFault → Rose (S.faults source.old) (S.faults source.new) }
     ensures stops { IfErr result (λ stop. stop ≢ Stop.WriteFault) }

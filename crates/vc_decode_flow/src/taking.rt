@@ -5,24 +5,20 @@ ghost use Rattle.vc_base.specs.declared.Side.TheVariants.{Cap};
 ghost use Rattle.vc_model.specs.Places.{has_error};
 ghost use Rattle.vc_model.specs.Solo.{SoloEvent};
 ghost use Rattle.vc_queue.specs.Holds.{held_payload};
-ghost use Rattle.vc_port.specs.Payloads.{bytes_out};
-ghost use Rattle.vc_encode_flow.specs.Flows.{HandedFirst, fault_finishes};
+ghost use Rattle.vc_port.specs.Payloads.{bytes_out, faulty_finishes};
+ghost use Rattle.vc_encode_flow.specs.Flows.{HandedFirst};
 ghost use Rattle.vc_encode_flow.specs.Steps.{IsThere};
 ghost use Rattle.vc_stream_laws.specs.Streams.{StreamSoFar, IsStream, IsUnspoilt};
 ghost use Rattle.vc_decode_flow.specs.Steps.{KeepsCaptures, HasTaken, with_stop};
 
 use crate::ends::Stop;
 use crate::opening::OUT_BUFFERS;
+use bitflags::Flags;
 use std::sync::Wait;
+use vc_base::flags::BufFlags;
 use vc_base::{Call, Errno, Reply, Side};
 use vc_port::PayloadPort;
 use vc_wait::call_on;
-
-/// The flag ERROR of a buffer.
-const ERROR: u32 = 0x40;
-
-/// The flag LAST of a buffer.
-const LAST: u32 = 0x10_0000;
 
 /// A CAPTURE buffer that was taken: how many of its bytes are used, whether it is of a damaged frame, and whether it is
 /// the last one before a stop.
@@ -38,7 +34,8 @@ pub(crate) struct Taken {
 fn is_failed(flags: u32) -> bool
     ensures { result ≡ has_error flags }
 {
-    flags & ERROR == ERROR
+    let error = BufFlags::ERROR.bits();
+    flags & error == error
 }
 
 /// Waits until the slot has an event, a CAPTURE buffer or an OUTPUT buffer to take.
@@ -118,11 +115,12 @@ pub(crate) fn take_capture<P: PayloadPort>(port: &mut P) -> Result<Option<Taken>
             flags,
             ..
         } => {
+            let last = BufFlags::LAST.bits();
             let taken = Taken {
                 index,
                 used,
                 damaged: is_failed(flags),
-                last: flags & LAST == LAST,
+                last: flags & last == last,
             };
             if !taken.last {
                 return Ok(Some(taken));
@@ -142,7 +140,7 @@ fn take_source<P: PayloadPort>(port: &mut P) -> Result<bool, Stop>
     ensures follows { P.follows port.old port.new }
     ensures goes_on { (start : List SoloEvent) (f : StreamSoFar) → IsStream start f (P.events port.old) → IfOk result (λ more. more ≡ true → IsStream start f (P.events port.new)) }
     ensures none { (start : List SoloEvent) (f : StreamSoFar) → IsStream start f (P.events port.old) → IfOk result (λ more. more ≡ false → IsUnspoilt start f (P.events port.new)) }
-    ensures engine { (start : List SoloEvent) (f : StreamSoFar) → IsStream start f (P.events port.old) → IsErrOf result Stop.EngineFault → fault_finishes start < fault_finishes (P.events port.new) }
+    ensures engine { (start : List SoloEvent) (f : StreamSoFar) → IsStream start f (P.events port.old) → IsErrOf result Stop.EngineFault → faulty_finishes start < faulty_finishes (P.events port.new) }
     ensures payloads { OnOk result (KeepsCaptures (P.hold port.old) (P.hold port.new)) }
     ensures bytes { bytes_out (P.events port.new) ≡ bytes_out (P.events port.old) }
     ensures stops { IfErr result (λ stop. (stop ≢ Stop.ReadFault) × (stop ≢ Stop.WriteFault) × (stop ≢ Stop.TooLong)) }
@@ -172,7 +170,7 @@ pub(crate) fn take_sources<P: PayloadPort>(port: &mut P) -> Result<(), Stop>
     ensures ready { P.ready port.new }
     ensures follows { P.follows port.old port.new }
     ensures unspoilt { (start : List SoloEvent) (f : StreamSoFar) → IsStream start f (P.events port.old) → OnOk result (IsUnspoilt start f (P.events port.new)) }
-    ensures engine { (start : List SoloEvent) (f : StreamSoFar) → IsStream start f (P.events port.old) → IsErrOf result Stop.EngineFault → fault_finishes start < fault_finishes (P.events port.new) }
+    ensures engine { (start : List SoloEvent) (f : StreamSoFar) → IsStream start f (P.events port.old) → IsErrOf result Stop.EngineFault → faulty_finishes start < faulty_finishes (P.events port.new) }
     ensures payloads { OnOk result (KeepsCaptures (P.hold port.old) (P.hold port.new)) }
     ensures bytes { bytes_out (P.events port.new) ≡ bytes_out (P.events port.old) }
     ensures stops { IfErr result (λ stop. (stop ≢ Stop.ReadFault) × (stop ≢ Stop.WriteFault) × (stop ≢ Stop.TooLong)) }

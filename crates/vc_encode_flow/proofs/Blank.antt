@@ -24,10 +24,10 @@ use Rattle.vc_model.specs.Solo.{SoloEvent, Called, Claims, Finishes, Answered, s
 use Rattle.vc_model.specs.Sound.{HasItsBuffers, IsOrdered}
 use Rattle.vc_laws.proofs.Effects.{CodecAfterFormat, CodecAfterBuffers, settle_is, Effect, effect_of, stays, has_events, has_out_format, has_out_buffers, has_cap_buffers}
 use Rattle.vc_queue.specs.Holds.{HoldState}
-use Rattle.vc_port.specs.Payloads.{slot_after, good_finishes, AreOfJobs, IsCallOn}
+use Rattle.vc_port.specs.Payloads.{slot_after, good_finishes, faulty_finishes, AreOfJobs, IsCallOn}
 use Rattle.vc_port.proofs.Handing.{slot-append, calls_hand_out}
 use Rattle.vc_encode_flow.specs.Frames.{joined}
-use Rattle.vc_encode_flow.specs.Flows.{FlowSoFar, flow_at_open, with_format, with_rates, HasBegun, IsKept, fault_finishes, frames_for, state_for, payloads, RunsAt, IsEncoding, IsUnderWay, IsFlow}
+use Rattle.vc_encode_flow.specs.Flows.{FlowSoFar, flow_at_open, with_format, with_rates, HasBegun, IsKept, frames_for, state_for, payloads, RunsAt, IsEncoding, IsUnderWay, IsFlow}
 use Rattle.vc_encode_flow.proofs.Encoding.{settled_same}
 use Rattle.vc_encode_flow.proofs.Events.{IsAsked, call_flow, finishes_more}
 use Rattle.vc_encode_flow.proofs.Calls.{ordered}
@@ -41,10 +41,10 @@ jobs_stay_closed (Called request bytes found ∷ js) a = absurd (false≢true a)
 jobs_stay_closed (Claims ∷ js) a = jobs_stay_closed js a
 jobs_stay_closed (Finishes fault ∷ js) a = jobs_stay_closed js a
 
-pub faults_later : (events more : List SoloEvent) → fault_finishes events ≤ fault_finishes (events ++ more)
-faults_later events [] = let e = ap fault_finishes (append-nil events) in omega (arith, e)
+pub faults_later : (events more : List SoloEvent) → faulty_finishes events ≤ faulty_finishes (events ++ more)
+faults_later events [] = let e = ap faulty_finishes (append-nil events) in omega (arith, e)
 faults_later events (e ∷ more) =
-    let a = ap fault_finishes (append_assoc events (e ∷ []) more) in
+    let a = ap faulty_finishes (append_assoc events (e ∷ []) more) in
     omega (arith, a, finishes_more true events e, faults_later (events ++ e ∷ []) more)
 
 open_slot : (found : Bool) → (closed_answer (Open Enc) found).reply ≡ Done → (closed_answer (Open Enc) found).slot ≡ Some (fresh_context Enc)
@@ -60,9 +60,9 @@ open_flow old before new after closed c =
     let told : Answered (closed_answer (Open Enc) c.found).reply (closed_answer (Open Enc) c.found).bytes ≡ Answered Done c.handed = ap (λ (s : Slot). (solo_step the_coder s e).told) (sym still) ∙ c.reply in
     let reply : (closed_answer (Open Enc) c.found).reply ≡ Done = cc in
     let hands = calls_hand_out old new before after (Open Enc) Done c in
-    let bad = ap fault_finishes c.events in
+    let bad = ap faulty_finishes c.events in
     let same : (old ++ c.jobs) ++ e ∷ [] ≡ old ++ (c.jobs ++ e ∷ []) = append_assoc old c.jobs (e ∷ []) in
-    let again = ap fault_finishes same in
+    let again = ap faulty_finishes same in
     let more = faults_later old (c.jobs ++ e ∷ []) in
     let good = hands.finishes in
     let open_now : Context = fresh_context Enc in
@@ -140,9 +140,9 @@ counted_so_far f c g h l m b (inr x) = not_one_more x.coded x.others x.lost (sym
 blank_flow : (start : List SoloEvent) (f g : FlowSoFar) (request : Call) (told : Reply) (handed : List ℕ) (new : List SoloEvent) (y : Context) → (a : IsAsked start f request [] told handed new) → HasBegun f → HasBegun g → (answer (Some a.flow.context) request [] a.found).slot ≡ Some y → IsEncoding g y → IsBlank y → handed_by_call request told handed ≡ [] → IsFlow start g new
 blank_flow start f g request told handed new y a b d next w k n =
     let c = a.flow.context in
-    let count = counted_so_far f c (good_finishes start) (good_finishes a.before) (fault_finishes start) (fault_finishes a.before) b a.flow.under_way in
+    let count = counted_so_far f c (good_finishes start) (good_finishes a.before) (faulty_finishes start) (faulty_finishes a.before) b a.flow.under_way in
     let same : joined g.taken ≡ joined f.taken = ap joined d.taken ∙ sym (ap joined b.taken) in
-    call_flow start f g request [] told handed new y a next w (blank_under_way g y (good_finishes start) (good_finishes a.before) (fault_finishes start) (fault_finishes a.before) d count k.codec k.job k.ready k.done) (same ∙ (sym (append-nil (joined f.taken)) ∙ ap (λ (l : List ℕ). joined f.taken ++ l) (sym n)))
+    call_flow start f g request [] told handed new y a next w (blank_under_way g y (good_finishes start) (good_finishes a.before) (faulty_finishes start) (faulty_finishes a.before) d count k.codec k.job k.ready k.done) (same ∙ (sym (append-nil (joined f.taken)) ∙ ap (λ (l : List ℕ). joined f.taken ++ l) (sym n)))
 
 -- Formats, buffers and controls
 
@@ -184,7 +184,7 @@ cap_buffers_effect c count number d (has_cap_buffers size o) =
 
 blank_before : (start : List SoloEvent) (f : FlowSoFar) (request : Call) (told : Reply) (handed : List ℕ) (new : List SoloEvent) → (a : IsAsked start f request [] told handed new) → HasBegun f → IsBlank a.flow.context
 blank_before start f request told handed new a b =
-    blank_of f a.flow.context (good_finishes start) (good_finishes a.before) (fault_finishes start) (fault_finishes a.before) (ordered start f a.before a.flow) b a.flow.under_way
+    blank_of f a.flow.context (good_finishes start) (good_finishes a.before) (faulty_finishes start) (faulty_finishes a.before) (ordered start f a.before a.flow) b a.flow.under_way
 
 -- the effect of the call, with the reply that it was answered
 effect_then : (start : List SoloEvent) (f : FlowSoFar) (request : Call) (told : Reply) (handed : List ℕ) (new : List SoloEvent) → (a : IsAsked start f request [] told handed new) → Effect a.flow.context request [] told (answer (Some a.flow.context) request [] a.found).slot

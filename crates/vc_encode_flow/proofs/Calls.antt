@@ -18,9 +18,9 @@ use Rattle.vc_model.specs.Sound.{IsOrdered, IsOrderedSlot}
 use Rattle.vc_model.proofs.Ending.{always_ordered}
 use Rattle.vc_laws.specs.Drains.{is_stop_call}
 use Rattle.vc_laws.proofs.Effects.{is_command, Settles, Effect, effect_of, stays, closes, has_events, has_rates, has_out_format, has_cap_format, has_out_buffers, has_cap_buffers, adds_out, adds_cap, queues_out, queues_cap, takes_out, takes_cap, takes_last, streams_out, streams_cap, stops_out, stops_cap, rests_cap, sets_mark, starts}
-use Rattle.vc_port.specs.Payloads.{good_finishes}
+use Rattle.vc_port.specs.Payloads.{good_finishes, faulty_finishes}
 use Rattle.vc_encode_flow.specs.Frames.{joined}
-use Rattle.vc_encode_flow.specs.Flows.{FlowSoFar, fault_finishes, payloads, RunsAt, IsEncoding, IsUnderWay, IsFlow}
+use Rattle.vc_encode_flow.specs.Flows.{FlowSoFar, payloads, RunsAt, IsEncoding, IsUnderWay, IsFlow}
 use Rattle.vc_encode_flow.proofs.Encoding.{settled_same}
 use Rattle.vc_encode_flow.proofs.Events.{IsAsked, call_flow}
 
@@ -133,7 +133,7 @@ quiet_flow start f request bytes told handed new q a =
     let w = a.flow.encodes in
     let e = effect_of c request bytes a.found (ordered start f a.before a.flow) in
     let y = quiet_effect c w.phase w.mark q e in
-    call_flow start f f request bytes told handed new y.0 a y.1 (alike_encodes f c y.0 y.2 w) (alike_under_way f c y.0 (good_finishes start) (good_finishes a.before) (fault_finishes start) (fault_finishes a.before) y.2 a.flow.under_way) (sym (append-nil (joined f.taken)) ∙ ap (λ (l : List ℕ). joined f.taken ++ l) (sym (hands_nothing request told handed q)))
+    call_flow start f f request bytes told handed new y.0 a y.1 (alike_encodes f c y.0 y.2 w) (alike_under_way f c y.0 (good_finishes start) (good_finishes a.before) (faulty_finishes start) (faulty_finishes a.before) y.2 a.flow.under_way) (sym (append-nil (joined f.taken)) ∙ ap (λ (l : List ℕ). joined f.taken ++ l) (sym (hands_nothing request told handed q)))
 
 pub quiet_dq : (block : Bool) → is_quiet (DqBuf Out block) ≡ true
 unfolding is_quiet

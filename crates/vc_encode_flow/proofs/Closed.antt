@@ -8,9 +8,8 @@ use Rattle.vc_model.specs.Context.{Slot}
 use Rattle.vc_model.specs.Answer.{answer, closed_answer, context_answer, unchanged}
 use Rattle.vc_model.specs.Solo.{SoloEvent, Called, Answered, solo_step}
 use Rattle.vc_queue.specs.Holds.{HoldState}
-use Rattle.vc_port.specs.Payloads.{slot_after, bytes_out, with_call, IsCallOn}
+use Rattle.vc_port.specs.Payloads.{slot_after, bytes_out, with_call, IsCallOn, faulty_finishes}
 use Rattle.vc_port.proofs.Handing.{slot-append, calls_hand_out}
-use Rattle.vc_encode_flow.specs.Flows.{fault_finishes}
 use Rattle.vc_encode_flow.proofs.Blank.{faults_later}
 
 closes : (s : Slot) (found : Bool) → (answer s Close [] found).reply ≢ Blocked → (answer s Close [] found).slot ≡ None
@@ -39,8 +38,8 @@ pub bytes_stay : (old : List SoloEvent) (before : HoldState) (told : Reply) (new
 bytes_stay old before told new after c =
     (calls_hand_out old new before after Close told c).bytes ∙ append-nil (bytes_out old)
 
-pub faults_stay : (old : List SoloEvent) (before : HoldState) (told : Reply) (new : List SoloEvent) (after : HoldState) → told ≢ Blocked → IsCallOn old before Close told new after → fault_finishes old ≤ fault_finishes new
+pub faults_stay : (old : List SoloEvent) (before : HoldState) (told : Reply) (new : List SoloEvent) (after : HoldState) → told ≢ Blocked → IsCallOn old before Close told new after → faulty_finishes old ≤ faulty_finishes new
 faults_stay old before told new after n c =
     let e : SoloEvent = Called Close [] c.found in
-    let same = ap fault_finishes (c.events ∙ (one_call (old ++ c.jobs) told e n ∙ append_assoc old c.jobs (e ∷ []))) in
+    let same = ap faulty_finishes (c.events ∙ (one_call (old ++ c.jobs) told e n ∙ append_assoc old c.jobs (e ∷ []))) in
     omega (arith, same, faults_later old (c.jobs ++ e ∷ []))

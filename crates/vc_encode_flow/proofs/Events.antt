@@ -17,10 +17,10 @@ use Rattle.vc_laws.proofs.Steps.{step_of}
 use Rattle.vc_laws.proofs.Tidy.{IsTidy, always_tidy}
 use Rattle.vc_queue.specs.Holds.{HoldState}
 use Rattle.vc_context.specs.Payloads.{handed_over}
-use Rattle.vc_port.specs.Payloads.{slot_after, told_at, bytes_out, good_finishes, is_of_job, AreOfJobs, with_call, IsCallOn}
+use Rattle.vc_port.specs.Payloads.{slot_after, told_at, bytes_out, good_finishes, faulty_finishes, is_of_job, AreOfJobs, with_call, IsCallOn}
 use Rattle.vc_port.proofs.Handing.{slot-append}
 use Rattle.vc_encode_flow.specs.Frames.{joined}
-use Rattle.vc_encode_flow.specs.Flows.{FlowSoFar, fault_finishes, IsEncoding, IsUnderWay, IsFlow}
+use Rattle.vc_encode_flow.specs.Flows.{FlowSoFar, IsEncoding, IsUnderWay, IsFlow}
 use Rattle.vc_encode_flow.proofs.Encoding.{count_of, job_goes_on, under_way_later}
 
 -- One event more
@@ -63,15 +63,15 @@ job_flow start f events e j w =
     let o : IsOrdered c = subst IsOrderedSlot w.stands (always_ordered the_coder events) in
     let t : IsTidy c = always_tidy the_coder events c w.stands in
     let told = (solo_step the_coder (Some c) e).told in
-    let g = job_goes_on f c (good_finishes start) (good_finishes events) (fault_finishes start) (fault_finishes events) w.later o t w.encodes w.under_way j (step_of the_coder c e o) in
+    let g = job_goes_on f c (good_finishes start) (good_finishes events) (faulty_finishes start) (faulty_finishes events) w.later o t w.encodes w.under_way j (step_of the_coder c e o) in
     let same : (solo_step the_coder (slot_after events) e).told ≡ told = ap (λ (s : Slot). (solo_step the_coder s e).told) w.stands in
     let good : good_finishes (events ++ e ∷ []) ≡ good_finishes events + count_of false e told = finishes_more false events e ∙ ap (λ (r : SoloReply). good_finishes events + count_of false e r) same in
-    let bad : fault_finishes (events ++ e ∷ []) ≡ fault_finishes events + count_of true e told = finishes_more true events e ∙ ap (λ (r : SoloReply). fault_finishes events + count_of true e r) same in
+    let bad : faulty_finishes (events ++ e ∷ []) ≡ faulty_finishes events + count_of true e told = finishes_more true events e ∙ ap (λ (r : SoloReply). faulty_finishes events + count_of true e r) same in
     record {
       context = g.context;
       stands = slot_more events e ∙ (ap (λ (s : Slot). (solo_step the_coder s e).slot) w.stands ∙ g.there);
       encodes = g.encodes;
-      under_way = under_way_later f g.context (good_finishes start) (good_finishes events + count_of false e told) (fault_finishes start) (good_finishes (events ++ e ∷ [])) (fault_finishes events + count_of true e told) (fault_finishes (events ++ e ∷ [])) (omega (arith, good)) (omega (arith, bad)) g.under_way;
+      under_way = under_way_later f g.context (good_finishes start) (good_finishes events + count_of false e told) (faulty_finishes start) (good_finishes (events ++ e ∷ [])) (faulty_finishes events + count_of true e told) (faulty_finishes (events ++ e ∷ [])) (omega (arith, good)) (omega (arith, bad)) g.under_way;
       handed = bytes_more events e ∙ (ap (λ (l : List ℕ). bytes_out events ++ l) (job_hands_none e _ j) ∙ (append-nil (bytes_out events) ∙ w.handed));
       later = omega (arith, w.later, bad);
     }
@@ -112,18 +112,18 @@ asked start f old before request told new after n c w =
     }
 
 -- what the call made of the context goes on with the flow that the call made
-pub call_flow : (start : List SoloEvent) (f g : FlowSoFar) (request : Call) (bytes : List ℕ) (told : Reply) (handed : List ℕ) (new : List SoloEvent) (y : Context) → (a : IsAsked start f request bytes told handed new) → (answer (Some a.flow.context) request bytes a.found).slot ≡ Some y → IsEncoding g y → IsUnderWay g y (good_finishes start) (good_finishes a.before) (fault_finishes start) (fault_finishes a.before) → joined g.taken ≡ joined f.taken ++ handed_by_call request told handed → IsFlow start g new
+pub call_flow : (start : List SoloEvent) (f g : FlowSoFar) (request : Call) (bytes : List ℕ) (told : Reply) (handed : List ℕ) (new : List SoloEvent) (y : Context) → (a : IsAsked start f request bytes told handed new) → (answer (Some a.flow.context) request bytes a.found).slot ≡ Some y → IsEncoding g y → IsUnderWay g y (good_finishes start) (good_finishes a.before) (faulty_finishes start) (faulty_finishes a.before) → joined g.taken ≡ joined f.taken ++ handed_by_call request told handed → IsFlow start g new
 unfolding solo_step
 call_flow start f g request bytes told handed new y a next w u j =
     let e : SoloEvent = Called request bytes a.found in
     let good : good_finishes (a.before ++ e ∷ []) ≡ good_finishes a.before + 0 = finishes_more false a.before e in
-    let bad : fault_finishes (a.before ++ e ∷ []) ≡ fault_finishes a.before + 0 = finishes_more true a.before e in
+    let bad : faulty_finishes (a.before ++ e ∷ []) ≡ faulty_finishes a.before + 0 = finishes_more true a.before e in
     let out : handed_by e (solo_step the_coder (slot_after a.before) e).told ≡ handed_by_call request told handed = ap (λ (s : Slot). handed_by_call request (answer s request bytes a.found).reply (answer s request bytes a.found).bytes) a.flow.stands ∙ (ap (λ (r : Reply). handed_by_call request r (answer (Some a.flow.context) request bytes a.found).bytes) a.reply ∙ ap (λ (l : List ℕ). handed_by_call request told l) a.gives) in
     subst (IsFlow start g) (sym a.events) (record {
       context = y;
       stands = slot_more a.before e ∙ (ap (λ (s : Slot). (answer s request bytes a.found).slot) a.flow.stands ∙ next);
       encodes = w;
-      under_way = under_way_later g y (good_finishes start) (good_finishes a.before) (fault_finishes start) (good_finishes (a.before ++ e ∷ [])) (fault_finishes a.before) (fault_finishes (a.before ++ e ∷ [])) (omega (arith, good)) (omega (arith, bad)) u;
+      under_way = under_way_later g y (good_finishes start) (good_finishes a.before) (faulty_finishes start) (good_finishes (a.before ++ e ∷ [])) (faulty_finishes a.before) (faulty_finishes (a.before ++ e ∷ [])) (omega (arith, good)) (omega (arith, bad)) u;
       handed = bytes_more a.before e ∙ (ap (λ (l : List ℕ). bytes_out a.before ++ l) out ∙ (ap (λ (l : List ℕ). l ++ handed_by_call request told handed) a.flow.handed ∙ (append_assoc (bytes_out start) (joined f.taken) (handed_by_call request told handed) ∙ ap (λ (l : List ℕ). bytes_out start ++ l) (sym j))));
       later = let l = a.flow.later in omega (arith, l, bad);
     })

@@ -19,9 +19,9 @@ use Rattle.vc_model.specs.Solo.{SoloEvent, Called}
 use Rattle.vc_model.specs.Sound.{IsOrdered}
 use Rattle.vc_model.proofs.Tests.{and_left, and_right}
 use Rattle.vc_laws.proofs.Effects.{settle_is, held_there}
-use Rattle.vc_port.specs.Payloads.{good_finishes}
+use Rattle.vc_port.specs.Payloads.{good_finishes, faulty_finishes}
 use Rattle.vc_encode_flow.specs.Frames.{joined}
-use Rattle.vc_encode_flow.specs.Flows.{FlowSoFar, with_picture, with_frame, fault_finishes, payloads, AreGood, IsUnderWay, IsFlow}
+use Rattle.vc_encode_flow.specs.Flows.{FlowSoFar, with_picture, with_frame, payloads, AreGood, IsUnderWay, IsFlow}
 use Rattle.vc_encode_flow.proofs.Encoding.{settled_same}
 use Rattle.vc_encode_flow.proofs.Events.{IsAsked, call_flow}
 use Rattle.vc_encode_flow.proofs.Calls.{ordered}
@@ -74,7 +74,7 @@ picture_flow start f index used stamp bytes handed new a =
     let w = a.flow.encodes in
     let o : IsOrdered c = ordered start f a.before a.flow in
     let q = queues c index used stamp bytes a.found w.phase w.mark a.reply in
-    call_flow start f (with_picture f bytes) (QBuf Out index used stamp) bytes Done handed new (queued_in c q.0 index used stamp bytes) a q.1 (record { kind = w.kind; format = w.format; rates = w.rates; phase = w.phase; mark = w.mark; runs = w.runs }) (queued_under_way f c q.0 index used stamp bytes (good_finishes start) (good_finishes a.before) (fault_finishes start) (fault_finishes a.before) o.firm.out_side a.flow.under_way) (sym (append-nil (joined f.taken)))
+    call_flow start f (with_picture f bytes) (QBuf Out index used stamp) bytes Done handed new (queued_in c q.0 index used stamp bytes) a q.1 (record { kind = w.kind; format = w.format; rates = w.rates; phase = w.phase; mark = w.mark; runs = w.runs }) (queued_under_way f c q.0 index used stamp bytes (good_finishes start) (good_finishes a.before) (faulty_finishes start) (faulty_finishes a.before) o.firm.out_side a.flow.under_way) (sym (append-nil (joined f.taken)))
 
 -- Taking a frame
 
@@ -186,15 +186,15 @@ frame_flow start f block index used flags seq stamp handed new e a =
     let same : t.front.bytes ≡ handed = sym t.bytes ∙ a.gives in
     let y : Context = record c { cap = take_front c.cap (t.front ∷ t.rest) } in
     let good : has_error t.front.flags ≡ false = ap has_error t.flags_are ∙ e in
-    let u = whole_under_way f c t.front t.rest (good_finishes start) (good_finishes a.before) (fault_finishes start) (fault_finishes a.before) t.there good a.flow.under_way in
-    call_flow start f (with_frame f handed) (DqBuf Cap block) [] (Taken index used flags seq stamp) handed new y a t.slot (record { kind = w.kind; format = w.format; rates = w.rates; phase = w.phase; mark = w.mark; runs = w.runs }) (subst (λ (l : List ℕ). IsUnderWay (with_frame f l) y (good_finishes start) (good_finishes a.before) (fault_finishes start) (fault_finishes a.before)) same u) (joined_more f.taken handed)
+    let u = whole_under_way f c t.front t.rest (good_finishes start) (good_finishes a.before) (faulty_finishes start) (faulty_finishes a.before) t.there good a.flow.under_way in
+    call_flow start f (with_frame f handed) (DqBuf Cap block) [] (Taken index used flags seq stamp) handed new y a t.slot (record { kind = w.kind; format = w.format; rates = w.rates; phase = w.phase; mark = w.mark; runs = w.runs }) (subst (λ (l : List ℕ). IsUnderWay (with_frame f l) y (good_finishes start) (good_finishes a.before) (faulty_finishes start) (faulty_finishes a.before)) same u) (joined_more f.taken handed)
 
-pub frame_fault : (start : List SoloEvent) (f : FlowSoFar) (block : Bool) (index used flags seq : ℕ) (stamp : Stamp) (handed : List ℕ) (new : List SoloEvent) → has_error flags ≡ true → IsAsked start f (DqBuf Cap block) [] (Taken index used flags seq stamp) handed new → fault_finishes start < fault_finishes new
+pub frame_fault : (start : List SoloEvent) (f : FlowSoFar) (block : Bool) (index used flags seq : ℕ) (stamp : Stamp) (handed : List ℕ) (new : List SoloEvent) → has_error flags ≡ true → IsAsked start f (DqBuf Cap block) [] (Taken index used flags seq stamp) handed new → faulty_finishes start < faulty_finishes new
 frame_fault start f block index used flags seq stamp handed new e a =
     let c = a.flow.context in
     let w = a.flow.encodes in
     let t = takes c block [] a.found index used flags seq stamp w.phase w.mark a.reply in
     let bad : has_error t.front.flags ≡ true = ap has_error t.flags_are ∙ e in
-    let shown = fault_shown f c t.front t.rest (good_finishes start) (good_finishes a.before) (fault_finishes start) (fault_finishes a.before) t.there bad a.flow.under_way in
-    let same = ap fault_finishes a.events in
+    let shown = fault_shown f c t.front t.rest (good_finishes start) (good_finishes a.before) (faulty_finishes start) (faulty_finishes a.before) t.there bad a.flow.under_way in
+    let same = ap faulty_finishes a.events in
     omega (arith, same, shown, faults_later a.before (Called (DqBuf Cap block) [] a.found ∷ []))

@@ -8,9 +8,9 @@ use Rattle.vc_defs.specs.Encoder.{fresh_encoder}
 use Rattle.vc_io.specs.Written.{AppendsFront}
 use Rattle.vc_model.specs.Context.{Context}
 use Rattle.vc_model.specs.Solo.{SoloEvent}
-use Rattle.vc_port.specs.Payloads.{bytes_out, good_finishes}
+use Rattle.vc_port.specs.Payloads.{bytes_out, good_finishes, faulty_finishes}
 use Rattle.vc_encode_flow.specs.Frames.{frames_from, joined}
-use Rattle.vc_encode_flow.specs.Flows.{FlowSoFar, frames_for, state_for, payloads, IsUnderWay, IsFlow, HandedFirst, fault_finishes}
+use Rattle.vc_encode_flow.specs.Flows.{FlowSoFar, frames_for, state_for, payloads, IsUnderWay, IsFlow, HandedFirst}
 use Rattle.vc_encode_flow.specs.Steps.{IsAt, StopsEarly, HasTaken, with_frames}
 use Rattle.vc_encode_flow.specs.declared.ends.Stop.{Stop}
 use Rattle.vc_encode_flow.specs.declared.ends.Stop.TheVariants.{EngineFault, NoMemory}
@@ -39,7 +39,7 @@ front_under_way f c g h l m (inr x) = front_frames f x.coded (x.lost ∷ x.other
 -- the frames that were handed out are the first ones of the pictures that were queued
 pub front_of_flow : (start : List SoloEvent) (f : FlowSoFar) (events : List SoloEvent) → IsFlow start f events → (more : List ℕ) × (joined (frames_for f f.queued) ≡ joined f.taken ++ more)
 front_of_flow start f events w =
-    front_under_way f w.context (good_finishes start) (good_finishes events) (fault_finishes start) (fault_finishes events) w.under_way
+    front_under_way f w.context (good_finishes start) (good_finishes events) (faulty_finishes start) (faulty_finishes events) w.under_way
 
 -- what was handed out since the start
 pub handed_of_flow : (start : List SoloEvent) (f : FlowSoFar) (events : List SoloEvent) → IsFlow start f events → HandedFirst start (joined f.taken) events

@@ -8,10 +8,10 @@ use Rattle.vc_model.specs.Places.{has_error}
 use Rattle.vc_model.specs.Solo.{SoloEvent}
 use Rattle.vc_queue.specs.Holds.{HoldState, held_payload}
 use Rattle.vc_context.specs.Payloads.{FitsSlot}
-use Rattle.vc_port.specs.Payloads.{slot_after, IsCallOn}
+use Rattle.vc_port.specs.Payloads.{slot_after, IsCallOn, faulty_finishes}
 use Rattle.vc_port.specs.Laws.{BeginsWith}
 use Rattle.vc_port.proofs.Taking.{taken_is_handed_out}
-use Rattle.vc_encode_flow.specs.Flows.{FlowSoFar, IsFlow, fault_finishes}
+use Rattle.vc_encode_flow.specs.Flows.{FlowSoFar, IsFlow}
 use Rattle.vc_encode_flow.specs.Steps.{IsThere, HasBytes, IsTaken}
 use Rattle.vc_encode_flow.proofs.Events.{asked}
 use Rattle.vc_encode_flow.proofs.Pictures.{frame_flow, frame_fault}
@@ -43,6 +43,6 @@ is_taken start f old new before after block index used flags seq stamp e c fits 
       there = begins used c.handed (held_payload after Cap index) (taken_is_handed_out old new before after block index used flags seq stamp c fits);
     }
 
-pub fault_taken : (start : List SoloEvent) (f : FlowSoFar) (old new : List SoloEvent) (before after : HoldState) (block : Bool) (index used flags seq : ℕ) (stamp : Stamp) → has_error flags ≡ true → IsCallOn old before (DqBuf Cap block) (Taken index used flags seq stamp) new after → IsFlow start f old → fault_finishes start < fault_finishes new
+pub fault_taken : (start : List SoloEvent) (f : FlowSoFar) (old new : List SoloEvent) (before after : HoldState) (block : Bool) (index used flags seq : ℕ) (stamp : Stamp) → has_error flags ≡ true → IsCallOn old before (DqBuf Cap block) (Taken index used flags seq stamp) new after → IsFlow start f old → faulty_finishes start < faulty_finishes new
 fault_taken start f old new before after block index used flags seq stamp e c w =
     frame_fault start f block index used flags seq stamp c.handed new e (asked start f old before (DqBuf Cap block) (Taken index used flags seq stamp) new after (λ q. absurd (cc)) c w)

@@ -5,9 +5,9 @@ use Rattle.vc_base.specs.declared.Format.{Format}
 use Rattle.vc_defs.specs.Encoder.{RunRates, EncoderState, fresh_encoder, encode}
 use Rattle.vc_model.specs.Context.{Context}
 use Rattle.vc_model.specs.Solo.{SoloEvent}
-use Rattle.vc_port.specs.Payloads.{good_finishes}
+use Rattle.vc_port.specs.Payloads.{good_finishes, faulty_finishes}
 use Rattle.vc_encode_flow.specs.Frames.{frames_from, joined}
-use Rattle.vc_encode_flow.specs.Flows.{FlowSoFar, frames_for, payloads, fault_finishes, IsUnderWay, IsFlow}
+use Rattle.vc_encode_flow.specs.Flows.{FlowSoFar, frames_for, payloads, IsUnderWay, IsFlow}
 
 frames_long : (s : EncoderState) (format : Format) (rates : RunRates) (ps : List (List ℕ)) → length (frames_from s format rates ps) ≡ length ps
 frames_long s format rates [] = refl
@@ -45,4 +45,4 @@ took_all f c g h l m n (inr x) =
 
 pub all_taken : (start : List SoloEvent) (f : FlowSoFar) (events : List SoloEvent) → length f.taken ≡ length f.queued → IsFlow start f events → TookAll f (good_finishes start) (good_finishes events)
 all_taken start f events n w =
-    took_all f w.context (good_finishes start) (good_finishes events) (fault_finishes start) (fault_finishes events) n w.under_way
+    took_all f w.context (good_finishes start) (good_finishes events) (faulty_finishes start) (faulty_finishes events) n w.under_way

@@ -11,15 +11,10 @@ use Rattle.vc_defs.specs.Raw.{yu12}
 use Rattle.vc_model.specs.Formats.{raw_format, formats_at_open, formats_for}
 use Rattle.vc_model.specs.Coder.{encoder}
 use Rattle.vc_model.specs.Context.{Context, Running, run}
-use Rattle.vc_model.specs.Handed.{finishes_by_fault}
 use Rattle.vc_model.specs.Places.{has_error}
 use Rattle.vc_model.specs.Solo.{SoloEvent}
-use Rattle.vc_port.specs.Payloads.{slot_after, told_at, bytes_out, good_finishes}
+use Rattle.vc_port.specs.Payloads.{slot_after, bytes_out, good_finishes, faulty_finishes}
 use Rattle.vc_encode_flow.specs.Frames.{frames_from, state_from, joined}
-
--- how many jobs of the slot were finished with a fault
-abbrev pub fault_finishes : List SoloEvent → ℕ
-fault_finishes events = finishes_by_fault true (told_at events)
 
 -- The format and the rates, the pictures that were queued, and the frames that were handed out, each in order.
 pub record FlowSoFar : Type 0 where
@@ -98,9 +93,9 @@ pub record IsFlow (start : List SoloEvent) (f : FlowSoFar) (events : List SoloEv
   pub context : Context
   pub stands : slot_after events ≡ Some context
   pub encodes : IsEncoding f context
-  pub under_way : IsUnderWay f context (good_finishes start) (good_finishes events) (fault_finishes start) (fault_finishes events)
+  pub under_way : IsUnderWay f context (good_finishes start) (good_finishes events) (faulty_finishes start) (faulty_finishes events)
   pub handed : bytes_out events ≡ bytes_out start ++ joined f.taken
-  pub later : fault_finishes start ≤ fault_finishes events
+  pub later : faulty_finishes start ≤ faulty_finishes events
 
 -- the flow of a slot that was just opened
 abbrev pub flow_at_open : FlowSoFar

@@ -8,19 +8,19 @@ ghost use Rattle.vc_io.specs.Written.{AppendsFront};
 ghost use Rattle.vc_model.specs.Places.{has_error};
 ghost use Rattle.vc_model.specs.Solo.{SoloEvent};
 ghost use Rattle.vc_queue.specs.Holds.{held_payload};
-ghost use Rattle.vc_encode_flow.specs.Flows.{FlowSoFar, IsFlow, HandedFirst, fault_finishes};
+ghost use Rattle.vc_port.specs.Payloads.{faulty_finishes};
+ghost use Rattle.vc_encode_flow.specs.Flows.{FlowSoFar, IsFlow, HandedFirst};
 ghost use Rattle.vc_encode_flow.specs.Steps.{IsAt, StopsEarly, HasTaken, IsThere, HasBytes, IsTaken};
 
 use crate::ends::Stop;
 use crate::opening::queue_capture;
+use bitflags::Flags;
 use std::sync::Wait;
+use vc_base::flags::BufFlags;
 use vc_base::{Call, Reply, Side};
 use vc_io::{Sink, write_whole};
 use vc_port::PayloadPort;
 use vc_wait::wait_on;
-
-/// The flag ERROR of a buffer.
-const ERROR: u32 = 0x40;
 
 /// A CAPTURE buffer that was taken, and how many of its bytes are used.
 #[derive(Clone, Copy, Debug)]
@@ -33,7 +33,8 @@ pub(crate) struct Frame {
 fn is_failed(flags: u32) -> bool
     ensures { result ≡ has_error flags }
 {
-    flags & ERROR == ERROR
+    let error = BufFlags::ERROR.bits();
+    flags & error == error
 }
 
 /// Waits for a frame and takes it.
@@ -43,7 +44,7 @@ pub(crate) fn take_frame<R: Wait, P: PayloadPort>(rt: &R, port: &mut P) -> Resul
     ensures follows { P.follows port.old port.new }
     ensures there { IfOk result (λ frame. IsThere (held_payload (P.hold port.new) Cap frame.index) frame.used) }
     ensures flow { (start : List SoloEvent) (f : FlowSoFar) → IsFlow start f (P.events port.old) → IfOk result (λ frame. IsTaken start f (P.events port.new) (held_payload (P.hold port.new) Cap frame.index) frame.used) }
-    ensures engine { (start : List SoloEvent) (f : FlowSoFar) → IsFlow start f (P.events port.old) → IsErrOf result Stop.EngineFault → fault_finishes start < fault_finishes (P.events port.new) }
+    ensures engine { (start : List SoloEvent) (f : FlowSoFar) → IsFlow start f (P.events port.old) → IsErrOf result Stop.EngineFault → faulty_finishes start < faulty_finishes (P.events port.new) }
     ensures hands { (start : List SoloEvent) (bytes : List ℕ) → HandedFirst start bytes (P.events port.old) → HandedFirst start bytes (P.events port.new) }
     ensures stops { IfErr result (λ stop. (stop ≢ Stop.ReadFault) × (stop ≢ Stop.WriteFault) × (stop ≢ Stop.TooLong)) }
 {
@@ -97,7 +98,7 @@ pub(crate) fn collect<R: Wait, P: PayloadPort, K: Sink>(
     ensures follows { P.follows port.old port.new }
     ensures taken { (start : List SoloEvent) (f : FlowSoFar) (first : Option (List ℕ)) → IsAt start f first (K.written sink.old) (P.events port.old) → OnOk result (HasTaken start f 1 first (K.written sink.new) (P.events port.new)) }
     ensures stopped { (start : List SoloEvent) (f : FlowSoFar) (first : Option (List ℕ)) → IsAt start f first (K.written sink.old) (P.events port.old) → OnErr result (StopsEarly start f first (K.written sink.new) (P.events port.new)) }
-    ensures engine { (start : List SoloEvent) (f : FlowSoFar) → IsFlow start f (P.events port.old) → IsErrOf result Stop.EngineFault → fault_finishes start < fault_finishes (P.events port.new) }
+    ensures engine { (start : List SoloEvent) (f : FlowSoFar) → IsFlow start f (P.events port.old) → IsErrOf result Stop.EngineFault → faulty_finishes start < faulty_finishes (P.events port.new) }
     ensures later { K.faults sink.old ≤ K.faults sink.new }
     ensures write { IsErrOf result Stop.WriteFault → Rose (K.faults sink.old) (K.faults sink.new) }
     ensures stops { IfErr result (λ stop. (stop ≢ Stop.ReadFault) × (stop ≢ Stop.TooLong)) }
@@ -122,7 +123,7 @@ pub(crate) fn collect_all<R: Wait, P: PayloadPort, K: Sink>(
     ensures follows { P.follows port.old port.new }
     ensures taken { (start : List SoloEvent) (f : FlowSoFar) (first : Option (List ℕ)) → IsAt start f first (K.written sink.old) (P.events port.old) → OnOk result (HasTaken start f count first (K.written sink.new) (P.events port.new)) }
     ensures stopped { (start : List SoloEvent) (f : FlowSoFar) (first : Option (List ℕ)) → IsAt start f first (K.written sink.old) (P.events port.old) → OnErr result (StopsEarly start f first (K.written sink.new) (P.events port.new)) }
-    ensures engine { (start : List SoloEvent) (f : FlowSoFar) (first : Option (List ℕ)) → IsAt start f first (K.written sink.old) (P.events port.old) → IsErrOf result Stop.EngineFault → fault_finishes start < fault_finishes (P.events port.new) }
+    ensures engine { (start : List SoloEvent) (f : FlowSoFar) (first : Option (List ℕ)) → IsAt start f first (K.written sink.old) (P.events port.old) → IsErrOf result Stop.EngineFault → faulty_finishes start < faulty_finishes (P.events port.new) }
     ensures later { K.faults sink.old ≤ K.faults sink.new }
     ensures write { IsErrOf result Stop.WriteFault → Rose (K.faults sink.old) (K.faults sink.new) }
     ensures stops { IfErr result (λ stop. (stop ≢ Stop.ReadFault) × (stop ≢ Stop.TooLong)) }

@@ -6,8 +6,8 @@ ghost use Rattle.std.specs.Io.KnownBytes.{Appends, Consumes, IsAtEnd};
 ghost use Rattle.vc_base.specs.Counts.{Rose};
 ghost use Rattle.vc_defs.specs.Laws.{AreRates};
 ghost use Rattle.vc_model.specs.Solo.{SoloEvent};
-ghost use Rattle.vc_port.specs.Payloads.{slot_after};
-ghost use Rattle.vc_encode_flow.specs.Flows.{FlowSoFar, HasBegun, flow_of, IsKept, HandedFirst, fault_finishes, rates_of};
+ghost use Rattle.vc_port.specs.Payloads.{slot_after, faulty_finishes};
+ghost use Rattle.vc_encode_flow.specs.Flows.{FlowSoFar, HasBegun, flow_of, IsKept, HandedFirst, rates_of};
 ghost use Rattle.vc_encode_flow.specs.Steps.{IsAt, StopsEarly, HasTaken};
 ghost use Rattle.vc_encode_flow.specs.Endings.{IsThrough, IsCutShort, IsWritten, IsFrontWritten, IsLong};
 
@@ -40,7 +40,7 @@ fn next_source<R: Wait, P: PayloadPort, K: Sink>(
     ensures first { number < 4 → (start : List SoloEvent) (f : FlowSoFar) (first : Option (List ℕ)) → IsAt start f first (K.written sink.old) (P.events port.old) → OnOk result (HasTaken start f 0 first (K.written sink.new) (P.events port.new)) }
     ensures later_on { 4 ≤ number → (start : List SoloEvent) (f : FlowSoFar) (first : Option (List ℕ)) → IsAt start f first (K.written sink.old) (P.events port.old) → OnOk result (HasTaken start f 1 first (K.written sink.new) (P.events port.new)) }
     ensures stopped { (start : List SoloEvent) (f : FlowSoFar) (first : Option (List ℕ)) → IsAt start f first (K.written sink.old) (P.events port.old) → OnErr result (StopsEarly start f first (K.written sink.new) (P.events port.new)) }
-    ensures engine { (start : List SoloEvent) (f : FlowSoFar) (first : Option (List ℕ)) → IsAt start f first (K.written sink.old) (P.events port.old) → IsErrOf result Stop.EngineFault → fault_finishes start < fault_finishes (P.events port.new) }
+    ensures engine { (start : List SoloEvent) (f : FlowSoFar) (first : Option (List ℕ)) → IsAt start f first (K.written sink.old) (P.events port.old) → IsErrOf result Stop.EngineFault → faulty_finishes start < faulty_finishes (P.events port.new) }
     ensures later { K.faults sink.old ≤ K.faults sink.new }
     ensures write { IsErrOf result Stop.WriteFault → Rose (K.faults sink.old) (K.faults sink.new) }
     ensures stops { IfErr result (λ stop. (stop ≢ Stop.ReadFault) × (stop ≢ Stop.TooLong)) }
@@ -70,7 +70,7 @@ fn encode_pictures<R: Wait, P: PayloadPort, S: Source, K: Sink>(
     ensures through { (start : List SoloEvent) (f : FlowSoFar) (first : Option (List ℕ)) → HasBegun f → IsAt start f first (K.written sink.old) (P.events port.old) → IfOk result (λ whole. IsThrough start f (length picture.old) whole first (K.written sink.new) (S.left source.old) (S.left source.new) (P.events port.new)) }
     ensures stopped { (start : List SoloEvent) (f : FlowSoFar) (first : Option (List ℕ)) → HasBegun f → IsAt start f first (K.written sink.old) (P.events port.old) → OnErr result (IsCutShort start f (length picture.old) first (K.written sink.new) (S.left source.old) (P.events port.new)) }
     ensures long { IsErrOf result Stop.TooLong → IsLong (S.left source.old) (S.left source.new) }
-    ensures engine { (start : List SoloEvent) (f : FlowSoFar) (first : Option (List ℕ)) → HasBegun f → IsAt start f first (K.written sink.old) (P.events port.old) → IsErrOf result Stop.EngineFault → fault_finishes start < fault_finishes (P.events port.new) }
+    ensures engine { (start : List SoloEvent) (f : FlowSoFar) (first : Option (List ℕ)) → HasBegun f → IsAt start f first (K.written sink.old) (P.events port.old) → IsErrOf result Stop.EngineFault → faulty_finishes start < faulty_finishes (P.events port.new) }
     ensures source_later { S.faults source.old ≤ S.faults source.new }
     ensures sink_later { K.faults sink.old ≤ K.faults sink.new }
     ensures read { IsErrOf result Stop.ReadFault → Rose (S.faults source.old) (S.faults source.new) }
@@ -108,7 +108,7 @@ fn run_flow<R: Wait, P: PayloadPort, S: Source, K: Sink>(
     ensures through { IfOk result (λ whole. IsThrough (P.events port.old) (flow_of format.now (rates_of rates.now.gop rates.now.iqp rates.now.pqp)) format.now.size whole (K.written sink.old) (K.written sink.new) (S.left source.old) (S.left source.new) (P.events port.new)) }
     ensures stopped { OnErr result (IsCutShort (P.events port.old) (flow_of format.now (rates_of rates.now.gop rates.now.iqp rates.now.pqp)) format.now.size (K.written sink.old) (K.written sink.new) (S.left source.old) (P.events port.new)) }
     ensures long { IsErrOf result Stop.TooLong → IsLong (S.left source.old) (S.left source.new) }
-    ensures engine { IsErrOf result Stop.EngineFault → fault_finishes (P.events port.old) < fault_finishes (P.events port.new) }
+    ensures engine { IsErrOf result Stop.EngineFault → faulty_finishes (P.events port.old) < faulty_finishes (P.events port.new) }
     ensures source_later { S.faults source.old ≤ S.faults source.new }
     ensures sink_later { K.faults sink.old ≤ K.faults sink.new }
     ensures read { IsErrOf result Stop.ReadFault → Rose (S.faults source.old) (S.faults source.new) }
@@ -176,7 +176,7 @@ pub fn encode_on<R: Wait, P: PayloadPort, S: Source, K: Sink>(
     ensures sink_later { K.faults sink.old ≤ K.faults sink.new }
     ensures read { result ≡ FlowEnd.ReadFault → Rose (S.faults source.old) (S.faults source.new) }
     ensures write { result ≡ FlowEnd.WriteFault → Rose (K.faults sink.old) (K.faults sink.new) }
-    ensures engine { result ≡ FlowEnd.EngineFault → fault_finishes (P.events port.old) < fault_finishes (P.events port.new) }
+    ensures engine { result ≡ FlowEnd.EngineFault → faulty_finishes (P.events port.old) < faulty_finishes (P.events port.new) }
     ensures long { result ≡ FlowEnd.TooLong → IsLong (S.left source.old) (S.left source.new) }
     ensures undamaged { result ≢ FlowEnd.Damaged }
 {

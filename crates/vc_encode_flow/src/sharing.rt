@@ -5,8 +5,8 @@ ghost use Rattle.vc_base.specs.declared.Format.{Format as FormatType};
 ghost use Rattle.vc_defs.specs.Laws.{IsRawFormat};
 ghost use Rattle.vc_defs.specs.Outputs.{fold_of};
 ghost use Rattle.vc_model.specs.Solo.{SoloEvent};
-ghost use Rattle.vc_port.specs.Payloads.{slot_after, bytes_out, good_finishes};
-ghost use Rattle.vc_encode_flow.specs.Flows.{IsKept, fault_finishes};
+ghost use Rattle.vc_port.specs.Payloads.{slot_after, bytes_out, good_finishes, faulty_finishes};
+ghost use Rattle.vc_encode_flow.specs.Flows.{IsKept};
 ghost use Rattle.vc_encode_flow.specs.Shares.{generated_bytes, IsSharing};
 ghost use Rattle.vc_encode_flow.specs.Tallies.{tally_of};
 
@@ -34,7 +34,7 @@ fn next_source<R: Wait, P: PayloadPort>(
     ensures ready { P.ready port.new }
     ensures follows { P.follows port.old port.new }
     ensures shares { (start : List SoloEvent) (format : FormatType) (number queued : ℕ) → IsSharing start format number queued (at - 4) tally.old (P.events port.old) → OnOk result (IsSharing start format number queued (at + 1 - 4) tally.new (P.events port.new)) }
-    ensures engine { (start : List SoloEvent) (format : FormatType) (number queued taken : ℕ) → IsSharing start format number queued taken tally.old (P.events port.old) → IsErrOf result Stop.EngineFault → fault_finishes start < fault_finishes (P.events port.new) }
+    ensures engine { (start : List SoloEvent) (format : FormatType) (number queued taken : ℕ) → IsSharing start format number queued taken tally.old (P.events port.old) → IsErrOf result Stop.EngineFault → faulty_finishes start < faulty_finishes (P.events port.new) }
     ensures bound { tally.new.bytes ≤ tally.old.bytes + 2 ^ 32 }
 {
     if at < BUFFERS {
@@ -63,7 +63,7 @@ fn share_pictures<R: Wait, P: PayloadPort>(
     ensures ready { P.ready port.new }
     ensures follows { P.follows port.old port.new }
     ensures through { (start : List SoloEvent) → IsSharing start format.now number 0 0 (tally_of []) (P.events port.old) → IfOk result (λ tally. IsSharing start format.now number pictures pictures tally (P.events port.new)) }
-    ensures engine { (start : List SoloEvent) → IsSharing start format.now number 0 0 (tally_of []) (P.events port.old) → IsErrOf result Stop.EngineFault → fault_finishes start < fault_finishes (P.events port.new) }
+    ensures engine { (start : List SoloEvent) → IsSharing start format.now number 0 0 (tally_of []) (P.events port.old) → IsErrOf result Stop.EngineFault → faulty_finishes start < faulty_finishes (P.events port.new) }
 {
     let mut tally = Tally::none();
     for at in 0..pictures {
@@ -92,7 +92,7 @@ fn run_share<R: Wait, P: PayloadPort>(
     ensures ready { P.ready port.new }
     ensures follows { P.follows port.old port.new }
     ensures through { IfOk result (λ tally. IsSharing (P.events port.old) format.now number pictures pictures tally (P.events port.new)) }
-    ensures engine { IsErrOf result Stop.EngineFault → fault_finishes (P.events port.old) < fault_finishes (P.events port.new) }
+    ensures engine { IsErrOf result Stop.EngineFault → faulty_finishes (P.events port.old) < faulty_finishes (P.events port.new) }
 {
     let Ok(mut picture) = vec![in alloc; 0; format.size as usize] else {
         return Err(Stop::NoMemory);
@@ -131,7 +131,7 @@ pub fn share_on<R: Wait, P: PayloadPort>(
     ensures fold { IfOk result (λ tally. tally.fold ≡ fold_of (generated_bytes format.now pictures number)) }
     ensures handed { OnOk result (bytes_out (P.events port.new) ≡ bytes_out (P.events port.old) ++ generated_bytes format.now pictures number) }
     ensures finishes { OnOk result (good_finishes (P.events port.old) + pictures ≤ good_finishes (P.events port.new)) }
-    ensures engine { IsErrOf result FlowEnd.EngineFault → fault_finishes (P.events port.old) < fault_finishes (P.events port.new) }
+    ensures engine { IsErrOf result FlowEnd.EngineFault → faulty_finishes (P.events port.old) < faulty_finishes (P.events port.new) }
     ensures refusals { IfErr result (λ end. (end ≡ FlowEnd.EngineFault) ⊎ (end ≡ FlowEnd.NoMemory)) }
 {
     let shared = run_share(rt, alloc, port, format, pictures, number);

@@ -5,7 +5,7 @@ ghost use Rattle.vc_base.specs.declared.Side.TheVariants.{Cap};
 ghost use Rattle.vc_base.specs.declared.Format.{Format};
 ghost use Rattle.vc_model.specs.Solo.{SoloEvent};
 ghost use Rattle.vc_queue.specs.Holds.{held_payload};
-ghost use Rattle.vc_encode_flow.specs.Flows.{fault_finishes};
+ghost use Rattle.vc_port.specs.Payloads.{faulty_finishes};
 ghost use Rattle.vc_encode_flow.specs.Steps.{IsThere, HasBytes};
 ghost use Rattle.vc_encode_flow.specs.Shares.{IsSharing};
 ghost use Rattle.vc_encode_flow.specs.Tallies.{tally_of, folded};
@@ -79,7 +79,7 @@ pub(crate) fn tally_frame<R: Wait, P: PayloadPort>(
     ensures ready { P.ready port.new }
     ensures follows { P.follows port.old port.new }
     ensures shares { (start : List SoloEvent) (format : Format) (number queued taken : ℕ) → IsSharing start format number queued taken tally.old (P.events port.old) → OnOk result (IsSharing start format number queued (taken + 1) tally.new (P.events port.new)) }
-    ensures engine { (start : List SoloEvent) (format : Format) (number queued taken : ℕ) → IsSharing start format number queued taken tally.old (P.events port.old) → IsErrOf result Stop.EngineFault → fault_finishes start < fault_finishes (P.events port.new) }
+    ensures engine { (start : List SoloEvent) (format : Format) (number queued taken : ℕ) → IsSharing start format number queued taken tally.old (P.events port.old) → IsErrOf result Stop.EngineFault → faulty_finishes start < faulty_finishes (P.events port.new) }
     ensures bound { tally.new.bytes ≤ tally.old.bytes + 2 ^ 32 }
 {
     let frame = match take_frame(rt, port) {
@@ -102,7 +102,7 @@ pub(crate) fn tally_frames<R: Wait, P: PayloadPort>(
     ensures ready { P.ready port.new }
     ensures follows { P.follows port.old port.new }
     ensures shares { (start : List SoloEvent) (format : Format) (number queued taken : ℕ) → IsSharing start format number queued taken tally.old (P.events port.old) → OnOk result (IsSharing start format number queued (taken + count) tally.new (P.events port.new)) }
-    ensures engine { (start : List SoloEvent) (format : Format) (number queued taken : ℕ) → IsSharing start format number queued taken tally.old (P.events port.old) → IsErrOf result Stop.EngineFault → fault_finishes start < fault_finishes (P.events port.new) }
+    ensures engine { (start : List SoloEvent) (format : Format) (number queued taken : ℕ) → IsSharing start format number queued taken tally.old (P.events port.old) → IsErrOf result Stop.EngineFault → faulty_finishes start < faulty_finishes (P.events port.new) }
 {
     for _frame in 0..count {
         match tally_frame(rt, port, tally) {

@@ -19,7 +19,7 @@ pub slot-append : (s : Slot) (es fs : List SoloEvent) → solo_slot the_coder s 
 slot-append s [] fs = refl
 slot-append s (e ∷ es) fs = slot-append (solo_step the_coder s e).slot es fs
 
-run-append : (s : Slot) (es fs : List SoloEvent) → solo_run the_coder s (es ++ fs) ≡ solo_run the_coder s es ++ solo_run the_coder (solo_slot the_coder s es) fs
+pub run-append : (s : Slot) (es fs : List SoloEvent) → solo_run the_coder s (es ++ fs) ≡ solo_run the_coder s es ++ solo_run the_coder (solo_slot the_coder s es) fs
 run-append s [] fs = refl
 run-append s (e ∷ es) fs =
     ap (λ (rs : List SoloEntry). record { event = e; told = (solo_step the_coder s e).told } ∷ rs) (run-append (solo_step the_coder s e).slot es fs)

@@ -15,7 +15,7 @@ use Rattle.vc_context.specs.Payloads.{FitsSlot, FitsContext}
 use Rattle.vc_port.specs.Payloads.{slot_after}
 use Rattle.vc_port.specs.Laws.{held_length, HeldIsThere}
 
-held_in : (s : Slot) (hold : HoldState) (side : Side) (index : ℕ) → IsSoundSlot s → FitsSlot s hold → index < 32 → option_map length (held_payload hold side index) ≡ held_length s side index
+pub held_in : (s : Slot) (hold : HoldState) (side : Side) (index : ℕ) → IsSoundSlot s → FitsSlot s hold → index < 32 → option_map length (held_payload hold side index) ≡ held_length s side index
 held_in None hold Out index sound fits few = fits.out index few
 held_in None hold Cap index sound fits few = fits.cap index few
 held_in (Some c) hold Out index sound fits few =
@@ -46,7 +46,7 @@ below_at : (t : Bool) (index most count : ℕ) → nat_lt index most ≡ t → c
 below_at true index most count e c h = omega (arith, ltb-true index most e)
 below_at false index most count e c h = absurd (omega arith)
 
-index_few : (q : QueueState) (index : ℕ) → OnceEach q → buffer_count q ≤ 32 → is_some (with_index index q.held) ≡ true → index < 32
+pub index_few : (q : QueueState) (index : ℕ) → OnceEach q → buffer_count q ≤ 32 → is_some (with_index index q.held) ≡ true → index < 32
 index_few q index once few h =
     let one : 1 ≤ count_index q.held index = counts_one index q.held h in
     let more : count_index q.held index ≤ count_index (buffers q) index = count_more q.held (q.ready ++ (q.job ++ q.done)) index in

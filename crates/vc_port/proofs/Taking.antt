@@ -23,11 +23,11 @@ use Rattle.vc_port.proofs.Holding.{held_cap}
 
 -- Settling moves no buffer that is held.
 
-lend_held : (q : QueueState) (ready : List Buffer) → (lend_front q ready).held ≡ q.held
+pub lend_held : (q : QueueState) (ready : List Buffer) → (lend_front q ready).held ≡ q.held
 lend_held q [] = refl
 lend_held q (b ∷ rest) = refl
 
-retire_held : (q : QueueState) (job : List Buffer) (used : ℕ) (bytes : List ℕ) (flags : ℕ) (stamp : Stamp) → (retire_from q job used bytes flags stamp).held ≡ q.held
+pub retire_held : (q : QueueState) (job : List Buffer) (used : ℕ) (bytes : List ℕ) (flags : ℕ) (stamp : Stamp) → (retire_from q job used bytes flags stamp).held ≡ q.held
 retire_held q [] used bytes flags stamp = refl
 retire_held q (b ∷ rest) used bytes flags stamp = refl
 

@@ -11,10 +11,11 @@ use Rattle.vc_base.specs.declared.Reply.TheVariants.{Taken}
 use Rattle.vc_base.specs.Buffers.{with_index}
 use Rattle.vc_model.specs.Context.{Slot, queue_of}
 use Rattle.vc_model.specs.Handed.{handed_by_call}
+use Rattle.vc_model.specs.Places.{AreHonest}
 use Rattle.vc_model.specs.Solo.{SoloEvent}
 use Rattle.vc_queue.specs.Holds.{HoldState, held_payload}
 use Rattle.vc_context.specs.Payloads.{FitsSlot}
-use Rattle.vc_port.specs.Payloads.{IsCallOn, slot_after, bytes_out, good_finishes}
+use Rattle.vc_port.specs.Payloads.{IsCallOn, slot_after, told_at, bytes_out, good_finishes}
 
 -- The bytes that were handed out on CAPTURE grow by those that the call hands out, and finishes are never taken back.
 pub record HandsOn (old new : List SoloEvent) (request : Call) (told : Reply) (handed : List ℕ) : Type 0 where
@@ -44,3 +45,9 @@ held_length (Some c) side index = option_map (λ b. b.size) (with_index index (q
 abbrev pub HeldIsThere : Type 0
 HeldIsThere =
     (events : List SoloEvent) (hold : HoldState) (side : Side) (index : ℕ) → FitsSlot (slot_after events) hold → index < 32 → option_map length (held_payload hold side index) ≡ held_length (slot_after events) side index
+
+-- Where the payloads before a call are those of the held buffers, the call keeps the events honest: a QBuf hands over as many
+-- bytes as it says.
+abbrev pub CallsAreHonest : Type 0
+CallsAreHonest =
+    (old new : List SoloEvent) (before after : HoldState) (request : Call) (told : Reply) → IsCallOn old before request told new after → FitsSlot (slot_after old) before → AreHonest (told_at old) → AreHonest (told_at new)

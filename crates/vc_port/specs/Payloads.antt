@@ -29,6 +29,10 @@ bytes_out events = handed_out (told_at events)
 abbrev pub good_finishes : List SoloEvent → ℕ
 good_finishes events = finishes_by_fault false (told_at events)
 
+-- how many were finished with a fault
+abbrev pub faulty_finishes : List SoloEvent → ℕ
+faulty_finishes events = finishes_by_fault true (told_at events)
+
 abbrev pub is_of_job : SoloEvent → Bool
 is_of_job (Called request bytes found) = false
 is_of_job Claims = true

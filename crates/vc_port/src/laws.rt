@@ -2,7 +2,7 @@
 
 ghost use Rattle.vc_base.specs.declared.Call.{Call};
 ghost use Rattle.vc_base.specs.declared.Reply.{Reply};
-ghost use Rattle.vc_port.specs.Laws.{CallsHandOut, TakenIsHandedOut, HeldIsThere};
+ghost use Rattle.vc_port.specs.Laws.{CallsHandOut, TakenIsHandedOut, HeldIsThere, CallsAreHonest};
 ghost use Rattle.vc_port.specs.Ports.{IsWaitedFor};
 ghost use Rattle.vc_port.specs.Payloads.{IsCallOn};
 
@@ -28,4 +28,9 @@ pub fn taken_is_handed_out()
 /// The payloads are there exactly for the held buffers, each of its buffer's length.
 pub fn held_is_there()
     ensures { HeldIsThere }
+{}
+
+/// The events stay honest over a call: what a QBuf hands over is as long as it says.
+pub fn calls_are_honest()
+    ensures { CallsAreHonest }
 {}

@@ -15,8 +15,8 @@ use Rattle.vc_model.specs.Solo.{SoloEvent, Called, Answered, solo_step}
 use Rattle.vc_model.proofs.Tests.{or_cases}
 use Rattle.vc_queue.specs.Holds.{HoldState}
 use Rattle.vc_context.specs.Payloads.{handed_over}
-use Rattle.vc_port.specs.Payloads.{slot_after, with_call, IsCallOn}
-use Rattle.vc_stream_laws.specs.Streams.{StreamSoFar, with_queued, not_known, some_stop, stop_by_change, faulty_finishes, IsGood, IsSpoilt, IsStream}
+use Rattle.vc_port.specs.Payloads.{slot_after, with_call, IsCallOn, faulty_finishes}
+use Rattle.vc_stream_laws.specs.Streams.{StreamSoFar, with_queued, not_known, some_stop, stop_by_change, IsGood, IsSpoilt, IsStream}
 use Rattle.vc_stream_laws.specs.Laws.{is_refusal, is_quiet, QuietCallsKeep, BytesAreQueued, SourcesComeBack, FailedSourcesTell, NoneLeftTells, CaptureStarts, PicturesAreTaken, StopsAreTold, StopsBeforeEnd, ChangesAreTold, CaptureStops, DrainBegins}
 use Rattle.vc_stream_laws.proofs.Events.{slot_both, faulty_both, finishes_more}
 use Rattle.vc_stream_laws.proofs.Jobs.{jobs_state, jobs_keep}

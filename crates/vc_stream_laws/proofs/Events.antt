@@ -7,9 +7,9 @@ use Rattle.vc_model.specs.Handed.{is_finish_by, handed_by, handed_out, finishes_
 use Rattle.vc_model.specs.Places.{is_honest, AreHonest}
 use Rattle.vc_model.specs.Solo.{SoloEvent, SoloReply, SoloEntry, solo_step, solo_run, solo_slot}
 use Rattle.vc_laws.specs.FirstFormats.{asks_format, asked_by, asked_from, asked_format}
-use Rattle.vc_port.specs.Payloads.{slot_after, told_at, bytes_out, good_finishes}
+use Rattle.vc_port.specs.Payloads.{slot_after, told_at, bytes_out, good_finishes, faulty_finishes}
 use Rattle.vc_port.proofs.Handing.{slot-append}
-use Rattle.vc_stream_laws.specs.Streams.{faulty_finishes, IsPlainClient}
+use Rattle.vc_stream_laws.specs.Streams.{IsPlainClient}
 
 -- Runs
 

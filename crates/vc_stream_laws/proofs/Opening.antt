@@ -35,8 +35,8 @@ use Rattle.vc_laws.proofs.Steps.{Step, calls, rests, lacks_job, claims, finishes
 use Rattle.vc_laws.proofs.Segmenting.{segment_more, open_step, begins_anew, nothing_segment}
 use Rattle.vc_queue.specs.Holds.{HoldState}
 use Rattle.vc_context.specs.Payloads.{handed_over}
-use Rattle.vc_port.specs.Payloads.{slot_after, bytes_out, is_of_job, AreOfJobs, with_call, IsCallOn}
-use Rattle.vc_stream_laws.specs.Streams.{stream_at_start, faulty_finishes, has_failed, rest_of, BeginsUnknown, IsPlainClient, IsGood, IsIdle, IsFresh, IsOpened}
+use Rattle.vc_port.specs.Payloads.{slot_after, bytes_out, is_of_job, AreOfJobs, with_call, IsCallOn, faulty_finishes}
+use Rattle.vc_stream_laws.specs.Streams.{stream_at_start, has_failed, rest_of, BeginsUnknown, IsPlainClient, IsGood, IsIdle, IsFresh, IsOpened}
 use Rattle.vc_stream_laws.specs.Laws.{Opens, SubscribesOpened, LimitsOpened, BuffersOpened, StreamBegins}
 use Rattle.vc_stream_laws.proofs.Events.{slot_both, slot_more, bytes_more, count_of, counts_none, finishes_more, client_more}
 use Rattle.vc_stream_laws.proofs.Goings.{grown_segment}

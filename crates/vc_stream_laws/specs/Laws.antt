@@ -20,8 +20,8 @@ use Rattle.vc_model.specs.Solo.{SoloEvent}
 use Rattle.vc_laws.specs.FirstFormats.{call_asks_format}
 use Rattle.vc_queue.specs.Holds.{HoldState}
 use Rattle.vc_context.specs.Payloads.{handed_over}
-use Rattle.vc_port.specs.Payloads.{slot_after, bytes_out, AreOfJobs, IsCallOn}
-use Rattle.vc_stream_laws.specs.Streams.{StreamSoFar, stream_at_start, with_queued, not_known, some_stop, stop_by_change, faulty_finishes, IsStream, IsUnspoilt, IsOpened, IsDecoded}
+use Rattle.vc_port.specs.Payloads.{slot_after, bytes_out, AreOfJobs, IsCallOn, faulty_finishes}
+use Rattle.vc_stream_laws.specs.Streams.{StreamSoFar, stream_at_start, with_queued, not_known, some_stop, stop_by_change, IsStream, IsUnspoilt, IsOpened, IsDecoded}
 
 -- Opening
 

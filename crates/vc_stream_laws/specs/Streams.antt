@@ -12,16 +12,11 @@ use Rattle.vc_model.specs.Coder.{the_coder}
 use Rattle.vc_model.specs.Context.{Context, Running, drain, change, run, stopped, is_stopped}
 use Rattle.vc_model.specs.Phases.{is_over, is_stopped_by_drain}
 use Rattle.vc_model.specs.Places.{AreHonest, has_error}
-use Rattle.vc_model.specs.Handed.{finishes_by_fault}
 use Rattle.vc_model.specs.Solo.{SoloEvent}
 use Rattle.vc_laws.specs.Segments.{Segment, fresh_segment, segment_of, whats}
 use Rattle.vc_laws.specs.FirstFormats.{asked_format}
 use Rattle.vc_laws.specs.Taking.{bytes_of}
-use Rattle.vc_port.specs.Payloads.{slot_after, told_at, bytes_out, good_finishes}
-
--- how many jobs of the slot were finished with a fault
-abbrev pub faulty_finishes : List SoloEvent → ℕ
-faulty_finishes events = finishes_by_fault true (told_at events)
+use Rattle.vc_port.specs.Payloads.{slot_after, told_at, bytes_out, good_finishes, faulty_finishes}
 
 -- one of the buffers has the flag ERROR
 abbrev pub has_failed : List Buffer → Bool

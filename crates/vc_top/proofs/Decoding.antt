@@ -8,10 +8,9 @@ use Rattle.vc_crew.specs.Rising.{RoseTogether}
 use Rattle.vc_defs.specs.Outputs.{decode_output, result_count}
 use Rattle.vc_io.specs.Written.{AppendsFront}
 use Rattle.vc_model.specs.Solo.{SoloEvent}
-use Rattle.vc_port.specs.Payloads.{good_finishes}
+use Rattle.vc_port.specs.Payloads.{good_finishes, faulty_finishes}
 use Rattle.vc_encode_flow.specs.declared.ends.FlowEnd.{FlowEnd}
 use Rattle.vc_encode_flow.specs.declared.ends.FlowEnd.TheVariants.{Whole, Damaged, ShortRaw, ReadFault, WriteFault, EngineFault, TooLong, NoMemory}
-use Rattle.vc_encode_flow.specs.Flows.{fault_finishes}
 use Rattle.vc_decode_flow.specs.Endings.{IsWritten, IsFrontWritten}
 use Rattle.vc_top.specs.declared.status.Status.{Status}
 use Rattle.vc_top.specs.declared.status.Status.TheVariants as statuses
@@ -71,12 +70,12 @@ runs_rose end (Some input) left old new r r' s s' events runs runs' h rose (inr 
 
 -- Causes
 
-pub decode_causes : (end : FlowEnd) (had left old new : Option (List ℕ)) (r r' s s' : ℕ) (events : List SoloEvent) (faults faults' : List ℕ) → HasDecoded end (record { left = had; faults = r }) (record { left = left; faults = r' }) (record { written = old; faults = s }) (record { written = new; faults = s' }) [] events → RoseTogether (fault_finishes events) faults faults' → AreCauses (status_of_flow end) r r' s s' faults faults'
+pub decode_causes : (end : FlowEnd) (had left old new : Option (List ℕ)) (r r' s s' : ℕ) (events : List SoloEvent) (faults faults' : List ℕ) → HasDecoded end (record { left = had; faults = r }) (record { left = left; faults = r' }) (record { written = old; faults = s }) (record { written = new; faults = s' }) [] events → RoseTogether (faulty_finishes events) faults faults' → AreCauses (status_of_flow end) r r' s s' faults faults'
 decode_causes end had left old new r r' s s' events faults faults' h rose =
     record {
       read = λ e. h.read (end_read end e);
       write = λ e. h.write (end_write end e);
-      engine = λ e. one_rose (fault_finishes events) faults faults' (h.engine (end_engine end e)) rose;
+      engine = λ e. one_rose (faulty_finishes events) faults faults' (h.engine (end_engine end e)) rose;
     }
 
 -- Completeness

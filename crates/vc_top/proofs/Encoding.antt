@@ -7,10 +7,9 @@ use Rattle.vc_base.specs.Counts.{Rose}
 use Rattle.vc_crew.specs.Rising.{RoseTogether}
 use Rattle.vc_io.specs.Written.{AppendsFront}
 use Rattle.vc_model.specs.Solo.{SoloEvent}
-use Rattle.vc_port.specs.Payloads.{good_finishes}
+use Rattle.vc_port.specs.Payloads.{good_finishes, faulty_finishes}
 use Rattle.vc_encode_flow.specs.declared.ends.FlowEnd.{FlowEnd}
 use Rattle.vc_encode_flow.specs.declared.ends.FlowEnd.TheVariants.{Whole, Damaged, ShortRaw, ReadFault, WriteFault, EngineFault, TooLong, NoMemory}
-use Rattle.vc_encode_flow.specs.Flows.{fault_finishes}
 use Rattle.vc_encode_flow.specs.Endings.{IsWritten, IsFrontWritten}
 use Rattle.vc_words.specs.declared.command.EncodeOptions.{EncodeOptions}
 use Rattle.vc_top.specs.declared.status.Status.{Status}
@@ -70,12 +69,12 @@ runs_rose options end (Some input) left old new r r' s s' events runs runs' h ro
 
 -- Causes
 
-pub encode_causes : (options : EncodeOptions) (end : FlowEnd) (had left old new : Option (List ℕ)) (r r' s s' : ℕ) (events : List SoloEvent) (faults faults' : List ℕ) → HasEncoded options.format (rates_in options.rates) end (record { left = had; faults = r }) (record { left = left; faults = r' }) (record { written = old; faults = s }) (record { written = new; faults = s' }) [] events → RoseTogether (fault_finishes events) faults faults' → AreCauses (status_of_flow end) r r' s s' faults faults'
+pub encode_causes : (options : EncodeOptions) (end : FlowEnd) (had left old new : Option (List ℕ)) (r r' s s' : ℕ) (events : List SoloEvent) (faults faults' : List ℕ) → HasEncoded options.format (rates_in options.rates) end (record { left = had; faults = r }) (record { left = left; faults = r' }) (record { written = old; faults = s }) (record { written = new; faults = s' }) [] events → RoseTogether (faulty_finishes events) faults faults' → AreCauses (status_of_flow end) r r' s s' faults faults'
 encode_causes options end had left old new r r' s s' events faults faults' h rose =
     record {
       read = λ e. h.read (end_read end e);
       write = λ e. h.write (end_write end e);
-      engine = λ e. one_rose (fault_finishes events) faults faults' (h.engine (end_engine end e)) rose;
+      engine = λ e. one_rose (faulty_finishes events) faults faults' (h.engine (end_engine end e)) rose;
     }
 
 -- Completeness

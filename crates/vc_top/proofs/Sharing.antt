@@ -9,12 +9,12 @@ use Rattle.std.proofs.lemmas.Option.{slice_get_within, get_or_from_slice_get}
 use Rattle.std.proofs.Math.Nat.{suc-mul}
 use Rattle.vc_base.specs.Counts.{Rose}
 use Rattle.vc_crew.specs.Rising.{RoseTogether}
-use Rattle.vc_crew.specs.Together.{EachRan, bad_finishes}
+use Rattle.vc_crew.specs.Together.{EachRan}
 use Rattle.vc_encode_flow.specs.declared.ends.FlowEnd.{FlowEnd}
 use Rattle.vc_encode_flow.specs.declared.ends.FlowEnd.TheVariants.{EngineFault, NoMemory}
 use Rattle.vc_encode_flow.specs.declared.tallying.Tally.{Tally}
 use Rattle.vc_model.specs.Solo.{SoloEvent}
-use Rattle.vc_port.specs.Payloads.{good_finishes}
+use Rattle.vc_port.specs.Payloads.{good_finishes, faulty_finishes}
 use Rattle.vc_words.specs.declared.command.ShareOptions.{ShareOptions}
 use Rattle.vc_words.specs.Ranges.{IsShare}
 use Rattle.vc_encode_flow.specs.Flows.{IsKept}
@@ -151,7 +151,7 @@ shared_refusals options flows ends slots stop ran (inl e) = inr e
 shared_refusals options flows ends slots stop ran (inr failed) =
     failed_so options 0 options.contexts flows ends slots stop ran failed
 
-faults_are : (options : ShareOptions) (k n : ℕ) (flows : List ShareFlow) (ends : List (Result Tally FlowEnd)) (slots : List (List SoloEvent)) → EachRan Shares (map (flow_for options) (range_with_len k n)) flows ends slots → OneFailed EngineFault ends → 0 < sum_by bad_finishes slots
+faults_are : (options : ShareOptions) (k n : ℕ) (flows : List ShareFlow) (ends : List (Result Tally FlowEnd)) (slots : List (List SoloEvent)) → EachRan Shares (map (flow_for options) (range_with_len k n)) flows ends slots → OneFailed EngineFault ends → 0 < sum_by faulty_finishes slots
 faults_are options k zero [] [] [] ran failed = absurd failed
 faults_are options k zero [] [] (s ∷ ss) ran failed = absurd ran
 faults_are options k zero [] (e ∷ es) slots ran failed = absurd ran
@@ -161,17 +161,17 @@ faults_are options k (suc n) (f ∷ fs) [] slots ran failed = absurd ran
 faults_are options k (suc n) (f ∷ fs) (e ∷ es) [] ran failed = absurd ran
 faults_are options k (suc n) (f ∷ fs) (Ok t ∷ es) (s ∷ ss) ran failed =
     let rest = faults_are options (k + 1) n fs es ss ran.1 failed in
-    let both = sum_by-cons bad_finishes s ss in omega (arith, rest, both)
+    let both = sum_by-cons faulty_finishes s ss in omega (arith, rest, both)
 faults_are options k (suc n) (f ∷ fs) (Err e ∷ es) (s ∷ ss) ran (inr failed) =
     let rest = faults_are options (k + 1) n fs es ss ran.1 failed in
-    let both = sum_by-cons bad_finishes s ss in omega (arith, rest, both)
+    let both = sum_by-cons faulty_finishes s ss in omega (arith, rest, both)
 faults_are options k (suc n) (f ∷ fs) (Err e ∷ es) (s ∷ ss) ran (inl same) =
-    let here : 0 < bad_finishes s = omega (arith, ran.0.engine (ap Err same)) in
-    let both = sum_by-cons bad_finishes s ss in omega (arith, here, both)
+    let here : 0 < faulty_finishes s = omega (arith, ran.0.engine (ap Err same)) in
+    let both = sum_by-cons faulty_finishes s ss in omega (arith, here, both)
 
-pub shared_faults : (options : ShareOptions) (flows : List ShareFlow) (ends : List (Result Tally FlowEnd)) (slots : List (List SoloEvent)) (faults faults' : List ℕ) → EachRan Shares (map (flow_for options) (range_with_len 0 options.contexts)) flows ends slots → OneFailed EngineFault ends → RoseTogether (sum_by bad_finishes slots) faults faults' → OneRose faults faults'
+pub shared_faults : (options : ShareOptions) (flows : List ShareFlow) (ends : List (Result Tally FlowEnd)) (slots : List (List SoloEvent)) (faults faults' : List ℕ) → EachRan Shares (map (flow_for options) (range_with_len 0 options.contexts)) flows ends slots → OneFailed EngineFault ends → RoseTogether (sum_by faulty_finishes slots) faults faults' → OneRose faults faults'
 shared_faults options flows ends slots faults faults' ran failed rose =
-    one_rose (sum_by bad_finishes slots) faults faults' (faults_are options 0 options.contexts flows ends slots ran failed) rose
+    one_rose (sum_by faulty_finishes slots) faults faults' (faults_are options 0 options.contexts flows ends slots ran failed) rose
 
 -- The status
 
@@ -191,7 +191,7 @@ failed_by_engine : (ends : List (Result Tally FlowEnd)) (stop : FlowEnd) → (st
 failed_by_engine ends stop (inl e) s = absurd (cc)
 failed_by_engine ends stop (inr failed) s = subst (λ x. OneFailed x ends) s failed
 
-pub share_fault : (options : ShareOptions) (flows : List ShareFlow) (ends : List (Result Tally FlowEnd)) (slots : List (List SoloEvent)) (stop : FlowEnd) (faults faults' : List ℕ) → EachRan Shares (map (flow_for options) (range_with_len 0 options.contexts)) flows ends slots → (stop ≡ NoMemory) ⊎ OneFailed stop ends → RoseTogether (sum_by bad_finishes slots) faults faults' → status_of_flow stop ≡ statuses.EngineFault → OneRose faults faults'
+pub share_fault : (options : ShareOptions) (flows : List ShareFlow) (ends : List (Result Tally FlowEnd)) (slots : List (List SoloEvent)) (stop : FlowEnd) (faults faults' : List ℕ) → EachRan Shares (map (flow_for options) (range_with_len 0 options.contexts)) flows ends slots → (stop ≡ NoMemory) ⊎ OneFailed stop ends → RoseTogether (sum_by faulty_finishes slots) faults faults' → status_of_flow stop ≡ statuses.EngineFault → OneRose faults faults'
 share_fault options flows ends slots stop faults faults' ran why rose s =
     shared_faults options flows ends slots faults faults' ran (failed_by_engine ends stop why (fault_is_engine stop (shared_refusals options flows ends slots stop ran why) s)) rose
 

@@ -5,11 +5,10 @@ use Rattle.vc_base.specs.Counts.{Rose}
 use Rattle.vc_defs.specs.Encoder.{RunRates}
 use Rattle.vc_defs.specs.Outputs.{fold_of}
 use Rattle.vc_model.specs.Solo.{SoloEvent}
-use Rattle.vc_port.specs.Payloads.{good_finishes}
+use Rattle.vc_port.specs.Payloads.{good_finishes, faulty_finishes}
 use Rattle.vc_encode_flow.specs.declared.ends.FlowEnd.{FlowEnd}
 use Rattle.vc_encode_flow.specs.declared.ends.FlowEnd.TheVariants.{Whole, Damaged, ShortRaw, ReadFault, WriteFault, EngineFault, TooLong, NoMemory}
 use Rattle.vc_encode_flow.specs.declared.tallying.Tally.{Tally}
-use Rattle.vc_encode_flow.specs.Flows.{fault_finishes}
 use Rattle.vc_encode_flow.specs.Shares.{generated_bytes}
 use Rattle.vc_encode_flow.specs.Endings.{IsWritten, IsFrontWritten, IsLong}
 use Rattle.vc_decode_flow.specs.Endings as decoding
@@ -33,7 +32,7 @@ pub record HasEncoded (format : Format) (rates : RunRates) (end : FlowEnd) (sour
   pub front : IsFrontWritten format rates source.left sink.written sink'.written before after
   pub read : end ≡ ReadFault → Rose source.faults source'.faults
   pub write : end ≡ WriteFault → Rose sink.faults sink'.faults
-  pub engine : end ≡ EngineFault → fault_finishes before < fault_finishes after
+  pub engine : end ≡ EngineFault → faulty_finishes before < faulty_finishes after
   pub long : end ≡ TooLong → IsLong source.left source'.left
   pub undamaged : end ≢ Damaged
 
@@ -44,7 +43,7 @@ pub record HasDecoded (end : FlowEnd) (source source' : SourceTells) (sink sink'
   pub front : decoding.IsFrontWritten source.left sink.written sink'.written before after
   pub read : end ≡ ReadFault → Rose source.faults source'.faults
   pub write : end ≡ WriteFault → Rose sink.faults sink'.faults
-  pub engine : end ≡ EngineFault → fault_finishes before < fault_finishes after
+  pub engine : end ≡ EngineFault → faulty_finishes before < faulty_finishes after
   pub long : end ≡ TooLong → IsLong source.left source'.left
   pub no_raw : end ≢ ShortRaw
 
@@ -53,7 +52,7 @@ pub record HasShared (format : Format) (pictures number : ℕ) (end : Result Tal
   pub bytes : IfOk end (λ tally. tally.bytes ≡ length (generated_bytes format pictures number))
   pub fold : IfOk end (λ tally. tally.fold ≡ fold_of (generated_bytes format pictures number))
   pub finishes : OnOk end (good_finishes before + pictures ≤ good_finishes after)
-  pub engine : IsErrOf end EngineFault → fault_finishes before < fault_finishes after
+  pub engine : IsErrOf end EngineFault → faulty_finishes before < faulty_finishes after
   pub refusals : IfErr end (λ stop. (stop ≡ EngineFault) ⊎ (stop ≡ NoMemory))
 
 -- the status of a command whose flow ended so
