@@ -13,7 +13,7 @@ use Rattle.vc_base.specs.declared.Call.TheVariants.{QBuf, DqBuf}
 use Rattle.vc_base.specs.declared.Reply.TheVariants.{Done, Taken}
 use Rattle.vc_base.specs.Buffers.{Buffer, is_empty, with_index, queued_buffer, queue_held, qbuf_refusal, qbuf_after, refuse_if, dqbuf_refusal, dqbuf_after, take_front}
 use Rattle.vc_model.specs.Context.{Context, PhaseState, run, settle, with_queue, sizeimage}
-use Rattle.vc_model.specs.Answer.{Answer, answer, answered, unless, unless_or_block, context_answer, is_part_of_picture, taken_answer, after_taking, stop_at_last, is_ended}
+use Rattle.vc_model.specs.Answer.{Answer, answer, answered, unless, unless_or_block, context_answer, is_no_whole_picture, taken_answer, after_taking, stop_at_last, is_ended}
 use Rattle.vc_model.specs.Places.{has_error}
 use Rattle.vc_model.specs.Solo.{SoloEvent, Called}
 use Rattle.vc_model.specs.Sound.{IsOrdered}
@@ -42,7 +42,7 @@ queues : (c : Context) (index used : ℕ) (stamp : Stamp) (bytes : List ℕ) (fo
 unfolding answer context_answer
 queues c index used stamp bytes found p m e =
     let o = qbuf_refusal c.out index used (sizeimage c Out) in
-    let i = refuse_if (is_part_of_picture c Out used) Inval None in
+    let i = refuse_if (is_no_whole_picture c Out used) Inval None in
     let x : Context = with_queue c Out (qbuf_after c.out index used stamp bytes) in
     let first = unless_done c o (unless c i (answered x Done)) e in
     let second = unless_done c i (answered x Done) (ap (λ (a : Answer). a.reply) (sym first.1) ∙ e) in

@@ -22,7 +22,7 @@ use Rattle.vc_defs.specs.Encoder.{RunRates}
 use Rattle.vc_model.specs.Formats.{formats_for}
 use Rattle.vc_model.specs.Coder.{CodecState, reset}
 use Rattle.vc_model.specs.Context.{Context, Slot, Running, Cause, drain, change, PhaseState, run, owe, last, stopped, queue_of, with_queue, is_dec, is_enc, is_run, is_stopped, is_drained, has_before, sizeimage, settle, settle_owed, settle_last, give_last}
-use Rattle.vc_model.specs.Answer.{Answer, unchanged, refused, answered, unless, if_found, unless_or_block, desc_answer, set_answer, set_refusal, after_new_format, reqbufs_answer, after_new_buffers, create_answer, query_answer, qbuf_answer, is_part_of_picture, taken_answer, after_taking, stop_at_last, is_ended, streamon_answer, streamoff_answer, streamoff_effect, without_drain_stop, after_output_off, mark_after_restart, after_capture_off, both_stream, stop_answer, start_is_early, start_answer, command_answer, value_answer, control_answer, context_answer}
+use Rattle.vc_model.specs.Answer.{Answer, unchanged, refused, answered, unless, if_found, unless_or_block, desc_answer, set_answer, set_refusal, after_new_format, reqbufs_answer, after_new_buffers, create_answer, query_answer, qbuf_answer, is_no_whole_picture, taken_answer, after_taking, stop_at_last, is_ended, streamon_answer, streamoff_answer, streamoff_effect, without_drain_stop, after_output_off, mark_after_restart, after_capture_off, both_stream, stop_answer, start_is_early, start_answer, command_answer, value_answer, control_answer, context_answer}
 use Rattle.vc_model.specs.Phases.{is_stopped_by_drain}
 use Rattle.vc_model.specs.Drains.{takes_a_buffer}
 use Rattle.vc_model.specs.Sound.{drain_not_noted, last_not_given, is_last, MarkIsQueued, IsSettled, IsSoundButUnsettled, IsOrdered}
@@ -369,7 +369,7 @@ qbuf_of : (c : Context) (side : Side) (index used : ℕ) (stamp : Stamp) (bytes 
 qbuf_of c side index used stamp bytes s =
     let q = queue_of c side in
     let a = answered (with_queue c side (qbuf_after q index used stamp bytes)) Done in
-    let r = refuse_if (is_part_of_picture c side used) Inval None in
+    let r = refuse_if (is_no_whole_picture c side used) Inval None in
     unless_of c (QBuf side index used stamp) bytes (held_refusal q.side (with_index index q.held) used (sizeimage c side)) (unless c r a) (λ (p : held_refusal q.side (with_index index q.held) used (sizeimage c side) ≡ None). let b = held_there q.side (with_index index q.held) used (sizeimage c side) p in unless_of c (QBuf side index used stamp) bytes r a (λ t. queue_side_of c side index used stamp bytes b.0 b.1 s))
 
 -- DqBuf

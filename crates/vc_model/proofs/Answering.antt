@@ -22,7 +22,7 @@ use Rattle.vc_model.specs.Formats.{FormatPair}
 use Rattle.vc_model.specs.Coder.{CodecState, reset}
 use Rattle.vc_defs.specs.Encoder.{RunRates}
 use Rattle.vc_model.specs.Context.{Context, Slot, Running, Cause, drain, change, PhaseState, run, owe, last, stopped, fresh_context, codec_at_open, queue_of, with_queue, is_run, sizeimage, is_dec, is_enc, is_drained, has_before}
-use Rattle.vc_model.specs.Answer.{Answer, unchanged, refused, answered, unless, if_found, unless_or_block, desc_answer, set_refusal, set_answer, after_new_format, reqbufs_answer, after_new_buffers, create_answer, query_answer, qbuf_answer, is_part_of_picture, taken_answer, dqbuf_answer, after_taking, stop_at_last, is_ended, streamon_answer, streamoff_answer, streamoff_effect, without_drain_stop, after_output_off, mark_after_restart, after_capture_off, both_stream, stop_answer, start_is_early, start_answer, command_answer, value_answer, control_answer, context_answer, closed_answer, answer}
+use Rattle.vc_model.specs.Answer.{Answer, unchanged, refused, answered, unless, if_found, unless_or_block, desc_answer, set_refusal, set_answer, after_new_format, reqbufs_answer, after_new_buffers, create_answer, query_answer, qbuf_answer, is_no_whole_picture, taken_answer, dqbuf_answer, after_taking, stop_at_last, is_ended, streamon_answer, streamoff_answer, streamoff_effect, without_drain_stop, after_output_off, mark_after_restart, after_capture_off, both_stream, stop_answer, start_is_early, start_answer, command_answer, value_answer, control_answer, context_answer, closed_answer, answer}
 use Rattle.vc_model.specs.Phases.{is_stopped_by_drain}
 use Rattle.vc_model.specs.Sound.{IsSoundQueue, HasItsBuffers, HasCodec, ends_with_last, is_last, stops_by_change, AreLong, is_at_end, MarkIsQueued, IsSoundButUnsettled, IsOrdered, IsOrderedSlot}
 use Rattle.vc_model.proofs.Tests.{and_left, not_true, not_false}
@@ -210,7 +210,7 @@ queue_firm c Cap k used stamp bytes b e l f =
 queue_slot : (c : Context) (side : Side) (k used : ℕ) (stamp : Stamp) (bytes : List ℕ) → IsOrdered c → IsOrderedSlot (qbuf_answer c side k used stamp bytes).slot
 queue_slot c side k used stamp bytes s =
     let q = queue_of c side in
-    unless_sound c (held_refusal q.side (with_index k q.held) used (sizeimage c side)) _ s (λ (p : held_refusal q.side (with_index k q.held) used (sizeimage c side) ≡ None). let b = queued_fits q.side (with_index k q.held) used (sizeimage c side) p in unless_sound c (refuse_if (is_part_of_picture c side used) Inval None) (answered (with_queue c side (qbuf_after q k used stamp bytes)) Done) s (λ (r : refuse_if (is_part_of_picture c side used) Inval None ≡ None). settle_sound (with_queue c side (qbuf_after q k used stamp bytes)) (queue_firm c side k used stamp bytes b.0 b.1.0 b.1.1 s.firm)))
+    unless_sound c (held_refusal q.side (with_index k q.held) used (sizeimage c side)) _ s (λ (p : held_refusal q.side (with_index k q.held) used (sizeimage c side) ≡ None). let b = queued_fits q.side (with_index k q.held) used (sizeimage c side) p in unless_sound c (refuse_if (is_no_whole_picture c side used) Inval None) (answered (with_queue c side (qbuf_after q k used stamp bytes)) Done) s (λ (r : refuse_if (is_no_whole_picture c side used) Inval None ≡ None). settle_sound (with_queue c side (qbuf_after q k used stamp bytes)) (queue_firm c side k used stamp bytes b.0 b.1.0 b.1.1 s.firm)))
 
 -- DqBuf
 

@@ -18,7 +18,7 @@ use Rattle.vc_model.specs.Formats.{formats_listed, formats_for}
 use Rattle.vc_base.specs.Events.{Event, event_reply, event_refusal, subscribe_after, unsubscribe_after, take_event_after}
 use Rattle.vc_defs.specs.Encoder.{RunRates}
 use Rattle.vc_model.specs.Context.{Context, Slot, run, queue_of, with_queue, format_of, sizeimage, is_dec, is_enc}
-use Rattle.vc_model.specs.Answer.{set_refusal, after_new_format, after_new_buffers, is_part_of_picture, is_ended, streamoff_effect, control_of, with_control, Answer, unchanged, refused, answered, unless, if_found, unless_or_block, desc_answer, query_answer, taken_answer, both_stream, stop_answer, start_is_early, start_answer, command_answer, value_answer, control_answer, context_answer, closed_answer, answer}
+use Rattle.vc_model.specs.Answer.{set_refusal, after_new_format, after_new_buffers, is_no_whole_picture, is_ended, streamoff_effect, control_of, with_control, Answer, unchanged, refused, answered, unless, if_found, unless_or_block, desc_answer, query_answer, taken_answer, both_stream, stop_answer, start_is_early, start_answer, command_answer, value_answer, control_answer, context_answer, closed_answer, answer}
 use Rattle.vc_model.specs.Phases.{is_stopped_by_drain}
 use Rattle.vc_model.specs.Runs.{is_claimable}
 use Rattle.vc_model.specs.Solo.{Answered}
@@ -134,7 +134,7 @@ row_stays c (QueryBuf side index) bytes found = query_stays c (querybuf_reply (q
 row_stays c (QBuf side index used stamp) bytes found =
     let q = queue_of c side in
     let a = answered (with_queue c side (qbuf_after q index used stamp bytes)) Done in
-    let o = refuse_if (is_part_of_picture c side used) Inval None in
+    let o = refuse_if (is_no_whole_picture c side used) Inval None in
     unless_stays c (qbuf_refusal q index used (sizeimage c side)) (unless c o a) (unless_stays c o a (λ p. absurd (done_other p)))
 row_stays c (DqBuf side block) bytes found =
     block_stays c (dqbuf_refusal (queue_of c side) (is_ended c side)) block (taken_answer c side (queue_of c side).done) (taken_stays c side (queue_of c side).done)

@@ -19,7 +19,7 @@ use Rattle.vc_model.specs.Formats.{FormatPair}
 use Rattle.vc_model.specs.Coder.{CodecState, reset}
 use Rattle.vc_defs.specs.Encoder.{RunRates}
 use Rattle.vc_model.specs.Context.{Context, Slot, Running, Cause, drain, change, PhaseState, run, owe, last, stopped, fresh_context, queue_of, with_queue, is_run, sizeimage, is_dec, is_enc, is_drained}
-use Rattle.vc_model.specs.Answer.{Answer, unchanged, refused, answered, unless, if_found, unless_or_block, desc_answer, set_refusal, after_new_format, after_new_buffers, query_answer, is_part_of_picture, taken_answer, stop_at_last, is_ended, streamoff_effect, without_drain_stop, after_output_off, mark_after_restart, after_capture_off, both_stream, stop_answer, start_is_early, start_answer, command_answer, value_answer, control_answer, context_answer, closed_answer, answer}
+use Rattle.vc_model.specs.Answer.{Answer, unchanged, refused, answered, unless, if_found, unless_or_block, desc_answer, set_refusal, after_new_format, after_new_buffers, query_answer, is_no_whole_picture, taken_answer, stop_at_last, is_ended, streamoff_effect, without_drain_stop, after_output_off, mark_after_restart, after_capture_off, both_stream, stop_answer, start_is_early, start_answer, command_answer, value_answer, control_answer, context_answer, closed_answer, answer}
 use Rattle.vc_model.specs.Phases.{is_stopped_by_drain}
 use Rattle.vc_model.specs.Sound.{HasItsBuffers, IsSoundButUnsettled, IsOrderedSlot}
 use Rattle.std.specs.Prelude.{min, slice_get}
@@ -400,7 +400,7 @@ context_step m c (QueryBuf side index) bytes found b = query_step m c (querybuf_
 context_step m c (QBuf side index used stamp) bytes found b =
     let q = queue_of c side in
     let y = with_queue c side (qbuf_after q index used stamp bytes) in
-    let o = refuse_if (is_part_of_picture c side used) Inval None in
+    let o = refuse_if (is_no_whole_picture c side used) Inval None in
     let e = queue_ordinal q index used stamp bytes (with_index index q.held) in
     let l = ordinal_at m m c side b in
     unless_step m c (held_refusal q.side (with_index index q.held) used (sizeimage c side)) (unless c o (answered y Done)) b (unless_step m c o (answered y Done) b (settled_slot m y (side_bounded (m + 1) m c side (qbuf_after q index used stamp bytes) (queue_queued q index used stamp bytes (with_index index q.held) (queued_at m m c side b)) (omega arith) (more_buffers m c b))))

@@ -22,7 +22,7 @@ use Rattle.vc_model.specs.Formats.{FormatPair}
 use Rattle.vc_model.specs.Coder.{CodecState, reset}
 use Rattle.vc_defs.specs.Encoder.{RunRates}
 use Rattle.vc_model.specs.Context.{Context, Slot, Running, Cause, drain, change, PhaseState, run, owe, last, stopped, fresh_context, queue_of, with_queue, is_run, sizeimage, is_dec, is_enc, is_drained}
-use Rattle.vc_model.specs.Answer.{Answer, unchanged, refused, answered, unless, if_found, unless_or_block, desc_answer, set_refusal, set_answer, after_new_format, reqbufs_answer, after_new_buffers, create_answer, query_answer, qbuf_answer, is_part_of_picture, taken_answer, stop_at_last, is_ended, streamon_answer, streamoff_effect, without_drain_stop, after_output_off, mark_after_restart, after_capture_off, both_stream, stop_answer, start_is_early, start_answer, command_answer, value_answer, control_answer, context_answer, closed_answer, answer}
+use Rattle.vc_model.specs.Answer.{Answer, unchanged, refused, answered, unless, if_found, unless_or_block, desc_answer, set_refusal, set_answer, after_new_format, reqbufs_answer, after_new_buffers, create_answer, query_answer, qbuf_answer, is_no_whole_picture, taken_answer, stop_at_last, is_ended, streamon_answer, streamoff_effect, without_drain_stop, after_output_off, mark_after_restart, after_capture_off, both_stream, stop_answer, start_is_early, start_answer, command_answer, value_answer, control_answer, context_answer, closed_answer, answer}
 use Rattle.vc_model.specs.Phases.{is_stopped_by_drain}
 use Rattle.vc_model.specs.Sound.{HasItsBuffers, stops_by_change, IsSoundButUnsettled, IsOrderedSlot}
 use Rattle.vc_model.proofs.Tests.{and_left}
@@ -448,7 +448,7 @@ queue_fit : (c : Context) (side : Side) (k used : ℕ) (stamp : Stamp) (bytes : 
 queue_fit c side k used stamp bytes x f =
     let q = queue_of c side in
     let y = with_queue c side (qbuf_after q k used stamp bytes) in
-    let o = refuse_if (is_part_of_picture c side used) Inval None in
+    let o = refuse_if (is_no_whole_picture c side used) Inval None in
     let n1 = queue_few q k used stamp bytes (with_index k q.held) refl in
     let n2 = few_of c side f in
     unless_fit c (held_refusal q.side (with_index k q.held) used (sizeimage c side)) (unless c o (answered y Done)) f (λ p. unless_fit c o (answered y Done) f (λ r. settled_fit y (side_fit c side (qbuf_after q k used stamp bytes) (omega arith) (queued_short c side k used stamp bytes x p f) f)))

@@ -22,7 +22,7 @@ use Rattle.vc_base.specs.Buffers.{Buffer, QueueState, buffer_count, is_empty, is
 use Rattle.vc_model.specs.Formats.{formats_for}
 use Rattle.vc_defs.specs.Encoder.{RunRates}
 use Rattle.vc_model.specs.Context.{Context, Slot, Running, Cause, drain, change, PhaseState, run, owe, last, stopped, queue_of, format_of, is_dec, is_enc, is_run, is_drained, sizeimage, raise_end, settle, settle_drain, settle_last, give_last}
-use Rattle.vc_model.specs.Answer.{Answer, unchanged, refused, answered, unless, if_found, unless_running, unless_or_block, desc_answer, set_answer, set_refusal, after_new_format, reqbufs_answer, after_new_buffers, create_answer, query_answer, qbuf_answer, is_part_of_picture, taken_answer, after_taking, stop_at_last, is_ended, dqbuf_answer, streamon_answer, streamoff_effect, both_stream, stop_answer, start_is_early, start_answer, command_answer, value_answer, control_answer, context_answer, closed_answer, answer}
+use Rattle.vc_model.specs.Answer.{Answer, unchanged, refused, answered, unless, if_found, unless_running, unless_or_block, desc_answer, set_answer, set_refusal, after_new_format, reqbufs_answer, after_new_buffers, create_answer, query_answer, qbuf_answer, is_no_whole_picture, taken_answer, after_taking, stop_at_last, is_ended, dqbuf_answer, streamon_answer, streamoff_effect, both_stream, stop_answer, start_is_early, start_answer, command_answer, value_answer, control_answer, context_answer, closed_answer, answer}
 use Rattle.vc_model.specs.Phases.{is_stopped_by_drain}
 use Rattle.vc_base.specs.Events.{EventState, subscribe_after, unsubscribe_after, take_event_after, event_refusal, event_reply}
 use Rattle.vc_model.specs.Runs.{is_claimable, ready_for_probe, ready_for_run}
@@ -240,10 +240,10 @@ query_hidden c Cap index =
 queue_hidden : (c : Context) (side : Side) (index used : ℕ) (stamp : Stamp) (bytes : List ℕ) → is_none c.running ≡ false → qbuf_answer (without_data c) side index used stamp bytes ≡ hide (qbuf_answer c side index used stamp bytes)
 queue_hidden c Out index used stamp bytes n =
     let one = ap (λ q. answered (record (without_data c) { out = q }) Done) (same_queue c.out index used stamp bytes (with_index index c.out.held)) ∙ answered_hidden (record c { out = qbuf_after c.out index used stamp bytes }) Done n in
-    unless_hidden c (held_refusal c.out.side (with_index index c.out.held) used (sizeimage c Out)) _ (unless c (refuse_if (is_part_of_picture c Out used) Inval None) (answered (record c { out = qbuf_after c.out index used stamp bytes }) Done)) (unless_hidden c (refuse_if (is_part_of_picture c Out used) Inval None) _ (answered (record c { out = qbuf_after c.out index used stamp bytes }) Done) one)
+    unless_hidden c (held_refusal c.out.side (with_index index c.out.held) used (sizeimage c Out)) _ (unless c (refuse_if (is_no_whole_picture c Out used) Inval None) (answered (record c { out = qbuf_after c.out index used stamp bytes }) Done)) (unless_hidden c (refuse_if (is_no_whole_picture c Out used) Inval None) _ (answered (record c { out = qbuf_after c.out index used stamp bytes }) Done) one)
 queue_hidden c Cap index used stamp bytes n =
     let one = ap (λ q. answered (record (without_data c) { cap = q }) Done) (same_queue c.cap index used stamp bytes (with_index index c.cap.held)) ∙ answered_hidden (record c { cap = qbuf_after c.cap index used stamp bytes }) Done n in
-    unless_hidden c (held_refusal c.cap.side (with_index index c.cap.held) used (sizeimage c Cap)) _ (unless c (refuse_if (is_part_of_picture c Cap used) Inval None) (answered (record c { cap = qbuf_after c.cap index used stamp bytes }) Done)) (unless_hidden c (refuse_if (is_part_of_picture c Cap used) Inval None) _ (answered (record c { cap = qbuf_after c.cap index used stamp bytes }) Done) one)
+    unless_hidden c (held_refusal c.cap.side (with_index index c.cap.held) used (sizeimage c Cap)) _ (unless c (refuse_if (is_no_whole_picture c Cap used) Inval None) (answered (record c { cap = qbuf_after c.cap index used stamp bytes }) Done)) (unless_hidden c (refuse_if (is_no_whole_picture c Cap used) Inval None) _ (answered (record c { cap = qbuf_after c.cap index used stamp bytes }) Done) one)
 
 last_hidden : (c : Context) (phase : PhaseState) (emptied : Bool) → stop_at_last (without_data c) phase emptied ≡ without_data (stop_at_last c phase emptied)
 last_hidden c run emptied = refl

@@ -20,7 +20,7 @@ use Rattle.vc_model.specs.Formats.{FormatPair}
 use Rattle.vc_model.specs.Coder.{reset}
 use Rattle.vc_defs.specs.Encoder.{RunRates}
 use Rattle.vc_model.specs.Context.{Context, Slot, Running, Cause, drain, change, PhaseState, run, owe, last, stopped, fresh_context, queue_of, with_queue, is_run, sizeimage, is_dec, is_enc, is_drained}
-use Rattle.vc_model.specs.Answer.{Answer, unchanged, refused, answered, unless, if_found, unless_or_block, desc_answer, set_refusal, set_answer, after_new_format, reqbufs_answer, after_new_buffers, create_answer, query_answer, qbuf_answer, is_part_of_picture, taken_answer, stop_at_last, is_ended, streamon_answer, streamoff_effect, without_drain_stop, after_output_off, mark_after_restart, after_capture_off, both_stream, stop_answer, start_is_early, start_answer, command_answer, value_answer, control_answer, context_answer, closed_answer, answer}
+use Rattle.vc_model.specs.Answer.{Answer, unchanged, refused, answered, unless, if_found, unless_or_block, desc_answer, set_refusal, set_answer, after_new_format, reqbufs_answer, after_new_buffers, create_answer, query_answer, qbuf_answer, is_no_whole_picture, taken_answer, stop_at_last, is_ended, streamon_answer, streamoff_effect, without_drain_stop, after_output_off, mark_after_restart, after_capture_off, both_stream, stop_answer, start_is_early, start_answer, command_answer, value_answer, control_answer, context_answer, closed_answer, answer}
 use Rattle.vc_model.specs.Phases.{is_stopped_by_drain}
 use Rattle.vc_model.specs.Sound.{HasItsBuffers, IsSoundButUnsettled, IsOrderedSlot}
 use Rattle.vc_model.proofs.Tests.{and_left}
@@ -325,7 +325,7 @@ queue_keeps c on side k used stamp bytes h f m =
     let q = qbuf_after p k used stamp bytes in
     let x = with_queue c on q in
     let new : Holding = record h { away = k ∷ h.away } in
-    let o = refuse_if (is_part_of_picture c on used) Inval None in
+    let o = refuse_if (is_no_whole_picture c on used) Inval None in
     let n : (e : Errno) → holding_after_call side h (QBuf on k used stamp) (Refused e) ≡ h = λ e. refl in
     unless_after side h (QBuf on k used stamp) c (held_refusal p.side (with_index k p.held) used (sizeimage c on)) (unless c o (answered x Done)) n m (λ r. let b = some_held p.side (with_index k p.held) used (sizeimage c on) r in unless_after side h (QBuf on k used stamp) c o (answered x Done) n m (λ t. settled_slot x side (cond (same_side on side) new h) (side_due c on q (firm_due c f) (inr (queue_job p k used stamp bytes (with_index k p.held)))) (other_keeps c on side q new h (λ e. subst (λ z. Keeps new (queue_held p k z used stamp bytes)) (sym b.1) (queued_keeps p k used stamp bytes b.0 h b.1 (sound_side c on f) (mine_keeps c on side h e m))) m)))
 

@@ -36,7 +36,7 @@ use Rattle.vc_base.specs.Buffers.{Buffer, QueueState, buffer_count, is_empty, wi
 use Rattle.vc_model.specs.Formats.{formats_for}
 use Rattle.vc_defs.specs.Encoder.{RunRates}
 use Rattle.vc_model.specs.Context.{Context, Slot, Running, Cause, drain, change, PhaseState, run, owe, last, stopped, queue_of, with_queue, is_dec, is_enc, is_run, is_drained, sizeimage, settle, settle_drain, settle_last, give_last}
-use Rattle.vc_model.specs.Answer.{Answer, unchanged, refused, answered, unless, if_found, unless_or_block, desc_answer, set_refusal, after_new_format, after_new_buffers, query_answer, is_part_of_picture, taken_answer, after_taking, stop_at_last, is_ended, streamoff_effect, without_drain_stop, after_output_off, mark_after_restart, after_capture_off, both_stream, stop_answer, start_is_early, start_answer, command_answer, value_answer, control_answer, context_answer, answer}
+use Rattle.vc_model.specs.Answer.{Answer, unchanged, refused, answered, unless, if_found, unless_or_block, desc_answer, set_refusal, after_new_format, after_new_buffers, query_answer, is_no_whole_picture, taken_answer, after_taking, stop_at_last, is_ended, streamoff_effect, without_drain_stop, after_output_off, mark_after_restart, after_capture_off, both_stream, stop_answer, start_is_early, start_answer, command_answer, value_answer, control_answer, context_answer, answer}
 use Rattle.vc_model.specs.Phases.{is_stopped_by_drain}
 
 -- the slot is closed, or its context has these formats
@@ -296,7 +296,7 @@ row_known c (SetFmt side want) bytes found k = set_known c side want (set_refusa
 row_known c (ReqBufs side count) bytes found k = kept_known c _ k (unless_lasts c _ _ (found_lasts c found _ (settled_lasts c (after_new_buffers c.kind side (with_queue c side (reqbufs_after (queue_of c side) count (sizeimage c side)))) (buffers_formats c.kind side (with_queue c side (reqbufs_after (queue_of c side) count (sizeimage c side))) ∙ queue_formats c side _))))
 row_known c (CreateBufs side count length) bytes found k = kept_known c _ k (unless_lasts c (create_refusal (queue_of c side) count length) _ (found_lasts c found _ (settled_lasts c (with_queue c side (create_after (queue_of c side) count length)) (queue_formats c side (create_after (queue_of c side) count length)))))
 row_known c (QueryBuf side index) bytes found k = kept_known c _ k (query_lasts c _)
-row_known c (QBuf side index used stamp) bytes found k = kept_known c _ k (unless_lasts c (held_refusal (queue_of c side).side (with_index index (queue_of c side).held) used (sizeimage c side)) _ (unless_lasts c (refuse_if (is_part_of_picture c side used) Inval None) _ (settled_lasts c (with_queue c side (qbuf_after (queue_of c side) index used stamp bytes)) (queue_formats c side (qbuf_after (queue_of c side) index used stamp bytes)))))
+row_known c (QBuf side index used stamp) bytes found k = kept_known c _ k (unless_lasts c (held_refusal (queue_of c side).side (with_index index (queue_of c side).held) used (sizeimage c side)) _ (unless_lasts c (refuse_if (is_no_whole_picture c side used) Inval None) _ (settled_lasts c (with_queue c side (qbuf_after (queue_of c side) index used stamp bytes)) (queue_formats c side (qbuf_after (queue_of c side) index used stamp bytes)))))
 row_known c (DqBuf side block) bytes found k = kept_known c _ k (block_lasts c (dqbuf_refusal (queue_of c side) (is_ended c side)) block _ (taken_lasts c side (queue_of c side).done))
 row_known c (StreamOn side) bytes found k = kept_known c _ k (unless_lasts c (streamon_refusal (queue_of c side) (sizeimage c side)) _ (settled_lasts c (with_queue c side (streamon_after (queue_of c side))) (queue_formats c side (streamon_after (queue_of c side)))))
 row_known c (StreamOff side) bytes found k = kept_known c _ k (either_lasts c (is_none c.running) _ _ (settled_lasts c (streamoff_effect c side) (off_formats c side)) (same_lasts c))
@@ -499,7 +499,7 @@ row_reply c (QueryBuf side index) bytes found k = query_reply c (queue_of c side
 row_reply c (QBuf side index used stamp) bytes found k =
     let q = queue_of c side in
     let a = answered (with_queue c side (qbuf_after q index used stamp bytes)) Done in
-    let o = refuse_if (is_part_of_picture c side used) Inval None in
+    let o = refuse_if (is_no_whole_picture c side used) Inval None in
     unless_reply c (qbuf_refusal q index used (sizeimage c side)) (unless c o a) (unless_reply c o a tt)
 row_reply c (DqBuf side block) bytes found k =
     block_reply c (dqbuf_refusal (queue_of c side) (is_ended c side)) block (taken_answer c side (queue_of c side).done) (taken_reply c side (queue_of c side).done)

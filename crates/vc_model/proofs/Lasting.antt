@@ -16,7 +16,7 @@ use Rattle.vc_base.specs.Buffers.{Buffer, QueueState, is_empty, with_index, held
 use Rattle.vc_model.specs.Formats.{formats_for}
 use Rattle.vc_defs.specs.Encoder.{RunRates}
 use Rattle.vc_model.specs.Context.{Context, Slot, Running, Cause, drain, change, PhaseState, run, owe, last, stopped, queue_of, with_queue, is_dec, is_enc, is_run, is_drained, sizeimage, settle, settle_drain, settle_last, give_last}
-use Rattle.vc_model.specs.Answer.{Answer, unchanged, refused, unless, if_found, unless_or_block, desc_answer, set_refusal, after_new_format, after_new_buffers, query_answer, is_part_of_picture, taken_answer, after_taking, stop_at_last, is_ended, streamoff_effect, without_drain_stop, after_output_off, mark_after_restart, after_capture_off, both_stream, stop_answer, start_is_early, start_answer, command_answer, value_answer, control_answer, context_answer, answer}
+use Rattle.vc_model.specs.Answer.{Answer, unchanged, refused, unless, if_found, unless_or_block, desc_answer, set_refusal, after_new_format, after_new_buffers, query_answer, is_no_whole_picture, taken_answer, after_taking, stop_at_last, is_ended, streamoff_effect, without_drain_stop, after_output_off, mark_after_restart, after_capture_off, both_stream, stop_answer, start_is_early, start_answer, command_answer, value_answer, control_answer, context_answer, answer}
 use Rattle.vc_model.specs.Phases.{is_stopped_by_drain}
 
 -- the slot is closed, or its context has this job
@@ -189,7 +189,7 @@ row_lasts c (CreateBufs side count length) bytes found =
     unless_lasts c (create_refusal (queue_of c side) count length) _ (found_lasts c found _ (settled_lasts c (with_queue c side (create_after (queue_of c side) count length)) (queue_runs c side (create_after (queue_of c side) count length))))
 row_lasts c (QueryBuf side index) bytes found = query_lasts c _
 row_lasts c (QBuf side index used stamp) bytes found =
-    unless_lasts c (held_refusal (queue_of c side).side (with_index index (queue_of c side).held) used (sizeimage c side)) _ (unless_lasts c (refuse_if (is_part_of_picture c side used) Inval None) _ (settled_lasts c (with_queue c side (qbuf_after (queue_of c side) index used stamp bytes)) (queue_runs c side (qbuf_after (queue_of c side) index used stamp bytes))))
+    unless_lasts c (held_refusal (queue_of c side).side (with_index index (queue_of c side).held) used (sizeimage c side)) _ (unless_lasts c (refuse_if (is_no_whole_picture c side used) Inval None) _ (settled_lasts c (with_queue c side (qbuf_after (queue_of c side) index used stamp bytes)) (queue_runs c side (qbuf_after (queue_of c side) index used stamp bytes))))
 row_lasts c (DqBuf side block) bytes found =
     block_lasts c (dqbuf_refusal (queue_of c side) (is_ended c side)) block _ (taken_lasts c side (queue_of c side).done)
 row_lasts c (StreamOn side) bytes found =

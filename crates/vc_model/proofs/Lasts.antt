@@ -21,7 +21,7 @@ use Rattle.vc_model.specs.Formats.{FormatPair}
 use Rattle.vc_model.specs.Coder.{CodecState, reset}
 use Rattle.vc_defs.specs.Encoder.{RunRates}
 use Rattle.vc_model.specs.Context.{Context, Slot, Running, Cause, drain, change, PhaseState, run, owe, last, stopped, queue_of, with_queue, is_run, sizeimage, is_dec, is_enc, is_drained}
-use Rattle.vc_model.specs.Answer.{Answer, unchanged, refused, answered, unless, if_found, unless_or_block, desc_answer, set_refusal, after_new_format, after_new_buffers, query_answer, is_part_of_picture, taken_answer, stop_at_last, is_ended, streamoff_effect, without_drain_stop, after_output_off, mark_after_restart, after_capture_off, both_stream, stop_answer, start_is_early, start_answer, command_answer, value_answer, control_answer, context_answer, closed_answer, answer}
+use Rattle.vc_model.specs.Answer.{Answer, unchanged, refused, answered, unless, if_found, unless_or_block, desc_answer, set_refusal, after_new_format, after_new_buffers, query_answer, is_no_whole_picture, taken_answer, stop_at_last, is_ended, streamoff_effect, without_drain_stop, after_output_off, mark_after_restart, after_capture_off, both_stream, stop_answer, start_is_early, start_answer, command_answer, value_answer, control_answer, context_answer, closed_answer, answer}
 use Rattle.vc_model.specs.Phases.{is_stopped_by_drain}
 use Rattle.vc_model.specs.Sound.{HasItsBuffers, IsOrderedSlot}
 use Rattle.vc_model.proofs.Tests.{and_left}
@@ -520,7 +520,7 @@ context_slot c (QueryBuf side index) bytes found s i = query_slot c (querybuf_re
 context_slot c (QBuf side index used stamp) bytes found s i =
     let q = queue_of c side in
     let y = with_queue c side (qbuf_after q index used stamp bytes) in
-    let o = refuse_if (is_part_of_picture c side used) Inval None in
+    let o = refuse_if (is_no_whole_picture c side used) Inval None in
     unless_slot c (held_refusal q.side (with_index index q.held) used (sizeimage c side)) (unless c o (answered y Done)) i (λ p. unless_slot c o (answered y Done) i (λ r. settled_slot c y (calm_step c y (queue_calm c side index used stamp bytes i))))
 context_slot c (DqBuf side block) bytes found s i =
     block_slot c (dqbuf_refusal (queue_of c side) (is_ended c side)) block (taken_answer c side (queue_of c side).done) i (take_slot c side (queue_of c side).done i)

@@ -24,7 +24,7 @@ use Rattle.vc_model.specs.Coder.{Coder, encoder, decoder, reset}
 use Rattle.vc_defs.specs.Decoder.{DecodedResult, picture, damaged, changed, spent, step_outcome}
 use Rattle.vc_defs.specs.Encoder.{RunRates}
 use Rattle.vc_model.specs.Context.{Context, Slot, Running, RunSort, copy, encode, decode, probe, Cause, drain, change, PhaseState, run, owe, last, stopped, fresh_context, queue_of, with_queue, is_dec, is_enc, is_drained, sizeimage, raise_end, settle, settle_drain, settle_last, give_last}
-use Rattle.vc_model.specs.Answer.{Answer, unchanged, refused, answered, unless, if_found, unless_or_block, desc_answer, set_answer, set_refusal, after_new_format, reqbufs_answer, after_new_buffers, create_answer, query_answer, qbuf_answer, is_part_of_picture, taken_answer, after_taking, stop_at_last, is_ended, streamon_answer, streamoff_effect, without_drain_stop, after_output_off, mark_after_restart, after_capture_off, both_stream, stop_answer, start_is_early, start_answer, command_answer, value_answer, control_answer, context_answer, closed_answer, answer}
+use Rattle.vc_model.specs.Answer.{Answer, unchanged, refused, answered, unless, if_found, unless_or_block, desc_answer, set_answer, set_refusal, after_new_format, reqbufs_answer, after_new_buffers, create_answer, query_answer, qbuf_answer, is_no_whole_picture, taken_answer, after_taking, stop_at_last, is_ended, streamon_answer, streamoff_effect, without_drain_stop, after_output_off, mark_after_restart, after_capture_off, both_stream, stop_answer, start_is_early, start_answer, command_answer, value_answer, control_answer, context_answer, closed_answer, answer}
 use Rattle.vc_model.specs.Phases.{is_stopped_by_drain}
 use Rattle.vc_model.specs.Runs.{is_claimable, sort_of, cap_after_claim, claim_front, after_claim, JobData, job_data, RunResult, copied, encoded, decoded, run_result, source_done, source_back, dest_done, dest_back, type_flag, source_moved, decoded_effect, run_effect, fault_effect, after_finish}
 use Rattle.vc_model.specs.Solo.{SoloEvent, Called, Claims, Finishes, solo_step, solo_slot, claim_step, solo_finish, finish_step}
@@ -260,7 +260,7 @@ queue_split c x on side k i used stamp None None n h =
 queue_balance : (c : Context) (on side : Side) (k i used : ℕ) (stamp : Stamp) (bytes : List ℕ) → call_queues side i (QBuf on k used stamp) (qbuf_answer c on k used stamp bytes).reply ≡ false → not_held_in side i (qbuf_answer c on k used stamp bytes).slot ≤ not_held (queue_of c side) i
 queue_balance c on side k i used stamp bytes n =
     let q = queue_of c on in
-    queue_split c (with_queue c on (qbuf_after q k used stamp bytes)) on side k i used stamp (held_refusal q.side (with_index k q.held) used (sizeimage c on)) (refuse_if (is_part_of_picture c on used) Inval None) n (queued_away c on side k i used stamp bytes)
+    queue_split c (with_queue c on (qbuf_after q k used stamp bytes)) on side k i used stamp (held_refusal q.side (with_index k q.held) used (sizeimage c on)) (refuse_if (is_no_whole_picture c on used) Inval None) n (queued_away c on side k i used stamp bytes)
 
 -- DqBuf: the front of done comes back
 stop_out : (c : Context) (p : PhaseState) (b : Bool) → (stop_at_last c p b).out ≡ c.out

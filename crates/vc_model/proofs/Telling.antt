@@ -21,7 +21,7 @@ use Rattle.vc_model.specs.Coder.{Coder, encoder, decoder, reset}
 use Rattle.vc_defs.specs.Decoder.{DecodedResult, picture, damaged, changed, spent, step_outcome}
 use Rattle.vc_defs.specs.Encoder.{RunRates}
 use Rattle.vc_model.specs.Context.{Context, Slot, Running, RunSort, Cause, drain, change, PhaseState, run, owe, last, stopped, queue_of, with_queue, is_dec, is_enc, is_drained, sizeimage, raise_end, settle, settle_owed, settle_last, give_last}
-use Rattle.vc_model.specs.Answer.{Answer, unchanged, refused, answered, unless, if_found, unless_or_block, desc_answer, set_answer, set_refusal, after_new_format, reqbufs_answer, after_new_buffers, create_answer, query_answer, qbuf_answer, is_part_of_picture, taken_answer, after_taking, stop_at_last, is_ended, streamon_answer, streamoff_answer, streamoff_effect, without_drain_stop, after_output_off, mark_after_restart, after_capture_off, both_stream, stop_answer, start_is_early, start_answer, command_answer, value_answer, control_answer, context_answer, answer}
+use Rattle.vc_model.specs.Answer.{Answer, unchanged, refused, answered, unless, if_found, unless_or_block, desc_answer, set_answer, set_refusal, after_new_format, reqbufs_answer, after_new_buffers, create_answer, query_answer, qbuf_answer, is_no_whole_picture, taken_answer, after_taking, stop_at_last, is_ended, streamon_answer, streamoff_answer, streamoff_effect, without_drain_stop, after_output_off, mark_after_restart, after_capture_off, both_stream, stop_answer, start_is_early, start_answer, command_answer, value_answer, control_answer, context_answer, answer}
 use Rattle.vc_model.specs.Phases.{is_stopped_by_drain}
 use Rattle.vc_model.specs.Runs.{is_claimable, sort_of, claim_front, after_claim, JobData, job_data, RunResult, copied, encoded, decoded, run_result, source_done, source_back, dest_done, dest_back, type_flag, source_moved, decoded_effect, run_effect, after_finish}
 use Rattle.vc_model.specs.Solo.{SoloEvent, Called, Claims, Finishes, solo_step, claim_step, solo_finish}
@@ -174,7 +174,7 @@ qbuf_told : (c : Context) (side : Side) (index used : ℕ) (stamp : Stamp) (byte
 qbuf_told c side index used stamp bytes =
     let q = queue_of c side in
     let a = answered (with_queue c side (qbuf_after q index used stamp bytes)) Done in
-    let r = refuse_if (is_part_of_picture c side used) Inval None in
+    let r = refuse_if (is_no_whole_picture c side used) Inval None in
     unless_told c (held_refusal q.side (with_index index q.held) used (sizeimage c side)) (unless c r a) (unless_told c r a (then_settled c _ (queue_quiet c side (qbuf_after q index used stamp bytes))))
 
 stop_quiet : (c x : Context) (p : PhaseState) (b : Bool) → x.events ≡ c.events → x.phase ≡ c.phase → Quiet c (stop_at_last x p b)

@@ -21,7 +21,7 @@ use Rattle.vc_model.specs.Coder.{Coder, CodecState, encoder, decoder, reset}
 use Rattle.vc_defs.specs.Decoder.{DecodedResult, picture, damaged, changed, spent, step_outcome}
 use Rattle.vc_defs.specs.Encoder.{RunRates}
 use Rattle.vc_model.specs.Context.{Context, Slot, Running, RunSort, copy, encode, decode, probe, Cause, drain, change, PhaseState, run, owe, last, stopped, queue_of, with_queue, is_dec, is_enc, is_drained, sizeimage, raise_end, settle, settle_drain, settle_last, give_last}
-use Rattle.vc_model.specs.Answer.{Answer, unchanged, refused, answered, unless, if_found, unless_or_block, desc_answer, set_answer, set_refusal, after_new_format, reqbufs_answer, after_new_buffers, create_answer, query_answer, qbuf_answer, is_part_of_picture, taken_answer, after_taking, stop_at_last, is_ended, streamon_answer, streamoff_answer, streamoff_effect, without_drain_stop, after_output_off, mark_after_restart, after_capture_off, both_stream, stop_answer, start_is_early, start_answer, command_answer, value_answer, control_answer, context_answer, closed_answer, answer}
+use Rattle.vc_model.specs.Answer.{Answer, unchanged, refused, answered, unless, if_found, unless_or_block, desc_answer, set_answer, set_refusal, after_new_format, reqbufs_answer, after_new_buffers, create_answer, query_answer, qbuf_answer, is_no_whole_picture, taken_answer, after_taking, stop_at_last, is_ended, streamon_answer, streamoff_answer, streamoff_effect, without_drain_stop, after_output_off, mark_after_restart, after_capture_off, both_stream, stop_answer, start_is_early, start_answer, command_answer, value_answer, control_answer, context_answer, closed_answer, answer}
 use Rattle.vc_model.specs.Phases.{is_stopped_by_drain}
 use Rattle.vc_model.specs.Runs.{is_claimable, sort_of, cap_after_claim, claim_front, after_claim, JobData, job_data, RunResult, copied, encoded, decoded, run_result, source_done, source_back, dest_done, dest_back, type_flag, source_moved, decoded_effect, run_effect, fault_effect, after_finish}
 use Rattle.vc_model.specs.Solo.{SoloEvent, Called, Claims, Finishes, solo_step, solo_run, solo_slot, claim_step, solo_finish, finish_step}
@@ -334,7 +334,7 @@ queue_split c x side index used stamp bytes None None n w h = then_settled x (h 
 qbuf_whole : (c : Context) (side : Side) (index used : ℕ) (stamp : Stamp) (bytes : List ℕ) → is_honest_call (QBuf side index used stamp) bytes (qbuf_answer c side index used stamp bytes).reply ≡ true → IsWhole c → SlotWhole (qbuf_answer c side index used stamp bytes).slot
 qbuf_whole c side index used stamp bytes n w =
     let q = queue_of c side in
-    queue_split c (with_queue c side (qbuf_after q index used stamp bytes)) side index used stamp bytes (held_refusal q.side (with_index index q.held) used (sizeimage c side)) (refuse_if (is_part_of_picture c side used) Inval None) n w (λ h. queued_whole c side index used stamp bytes h w)
+    queue_split c (with_queue c side (qbuf_after q index used stamp bytes)) side index used stamp bytes (held_refusal q.side (with_index index q.held) used (sizeimage c side)) (refuse_if (is_no_whole_picture c side used) Inval None) n w (λ h. queued_whole c side index used stamp bytes h w)
 
 -- DqBuf
 stop_whole : (x : Context) (p : PhaseState) (b : Bool) → IsWhole x → IsWhole (stop_at_last x p b)

@@ -108,14 +108,14 @@ query_answer c None = refused c Inval
 query_answer c (Some reply) = unchanged c reply
 
 -- an encoder takes whole pictures only (docs/DEVICE.md, "What is our own")
-abbrev pub is_part_of_picture : Context → Side → ℕ → Bool
-is_part_of_picture c Out used = is_enc c.kind && not (used == sizeimage c Out)
-is_part_of_picture c Cap used = false
+abbrev pub is_no_whole_picture : Context → Side → ℕ → Bool
+is_no_whole_picture c Out used = is_enc c.kind && not (used == sizeimage c Out)
+is_no_whole_picture c Cap used = false
 
 abbrev pub qbuf_answer : Context → Side → ℕ → ℕ → Stamp → List ℕ → Answer
 qbuf_answer c side index used stamp bytes =
     let q = queue_of c side in
-    unless c (qbuf_refusal q index used (sizeimage c side)) (unless c (refuse_if (is_part_of_picture c side used) Inval None) (answered (with_queue c side (qbuf_after q index used stamp bytes)) Done))
+    unless c (qbuf_refusal q index used (sizeimage c side)) (unless c (refuse_if (is_no_whole_picture c side used) Inval None) (answered (with_queue c side (qbuf_after q index used stamp bytes)) Done))
 
 -- whether the user took the LAST buffer
 abbrev pub is_ended : Context → Side → Bool

@@ -16,7 +16,7 @@ use Rattle.vc_base.specs.Buffers.{Buffer, QueueState, with_index, refuse_if, hel
 use Rattle.vc_defs.specs.Decoder.{DecodedResult, picture, damaged, changed, spent, step_outcome}
 use Rattle.vc_model.specs.Coder.{the_coder, encoder, decoder}
 use Rattle.vc_model.specs.Context.{Context, Slot, Running, RunSort, PhaseState, Cause, run, owe, last, stopped, drain, change, is_run, is_drained, raise_end, settle, settle_drain, settle_last, give_last, sizeimage, with_queue}
-use Rattle.vc_model.specs.Answer.{Answer, answer, closed_answer, context_answer, answered, unless, is_part_of_picture}
+use Rattle.vc_model.specs.Answer.{Answer, answer, closed_answer, context_answer, answered, unless, is_no_whole_picture}
 use Rattle.vc_model.specs.Runs.{JobData, job_data, RunResult, copied, encoded, decoded, run_result, is_claimable, sort_of, claim_front, after_claim, after_finish, source_done, source_back, source_moved, dest_done, dest_back, decoded_effect, run_effect, fault_effect}
 use Rattle.vc_model.specs.Solo.{SoloEvent, Called, Claims, Finishes, Answered, SoloEntry, claim_step, solo_finish, finish_step, solo_step, solo_run, solo_slot}
 use Rattle.vc_model.specs.Places.{is_honest, is_honest_call, AreHonest}
@@ -177,7 +177,7 @@ accepted : (s : Slot) (index used : ℕ) (stamp : Stamp) (bytes : List ℕ) (fou
 unfolding answer closed_answer context_answer
 accepted None index used stamp bytes found sound e = absurd (cc)
 accepted (Some c) index used stamp bytes found sound e =
-    let none : qbuf_refusal c.out index used (sizeimage c Out) ≡ None = not_refused c (qbuf_refusal c.out index used (sizeimage c Out)) (unless c (refuse_if (is_part_of_picture c Out used) Inval None) (answered (with_queue c Out (qbuf_after c.out index used stamp bytes)) Done)) e in
+    let none : qbuf_refusal c.out index used (sizeimage c Out) ≡ None = not_refused c (qbuf_refusal c.out index used (sizeimage c Out)) (unless c (refuse_if (is_no_whole_picture c Out used) Inval None) (answered (with_queue c Out (qbuf_after c.out index used stamp bytes)) Done)) e in
     let place : HasPlace (with_index index c.out.held) used = has_place (with_index index c.out.held) used (sizeimage c Out) (subst (λ (side : Side). held_refusal side (with_index index c.out.held) used (sizeimage c Out) ≡ None) sound.firm.out_side none) in
     (place, index_few c.out index sound.firm.out.once sound.fit.few_out (ap is_some place.there))
 

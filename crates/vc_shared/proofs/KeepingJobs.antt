@@ -17,7 +17,7 @@ use Rattle.vc_base.specs.Buffers.{Buffer, QueueState, buffer_count, most_buffers
 use Rattle.vc_model.specs.Formats.{formats_for}
 use Rattle.vc_defs.specs.Encoder.{RunRates}
 use Rattle.vc_model.specs.Context.{Context, Slot, Running, drain, PhaseState, run, owe, queue_of, with_queue, format_of, is_dec, is_enc, is_run, is_drained, sizeimage, settle, settle_drain, settle_last}
-use Rattle.vc_model.specs.Answer.{Answer, unchanged, refused, answered, unless, if_found, unless_running, unless_or_block, desc_answer, set_answer, set_refusal, after_new_format, reqbufs_answer, after_new_buffers, query_answer, is_part_of_picture, taken_answer, after_taking, stop_at_last, is_ended, both_stream, stop_answer, start_is_early, start_answer, command_answer, value_answer, control_answer, context_answer, answer}
+use Rattle.vc_model.specs.Answer.{Answer, unchanged, refused, answered, unless, if_found, unless_running, unless_or_block, desc_answer, set_answer, set_refusal, after_new_format, reqbufs_answer, after_new_buffers, query_answer, is_no_whole_picture, taken_answer, after_taking, stop_at_last, is_ended, both_stream, stop_answer, start_is_early, start_answer, command_answer, value_answer, control_answer, context_answer, answer}
 use Rattle.vc_model.specs.Phases.{is_stopped_by_drain}
 
 -- A job runs, in phase Run. OUTPUT streams and has a buffer, and CAPTURE has none in the job where it doesn't stream.
@@ -181,7 +181,7 @@ row_keeps c r (CreateBufs side count length) bytes found b =
     unless_keeps c (create_refusal (queue_of c side) count length) _ (found_keeps c found _ (settled c (with_queue c side (create_after (queue_of c side) count length)) r b (queue_same c side (create_after (queue_of c side) count length) refl)))
 row_keeps c r (QueryBuf side index) bytes found b = query_keeps c _
 row_keeps c r (QBuf side index used stamp) bytes found b =
-    unless_keeps c (held_refusal (queue_of c side).side (with_index index (queue_of c side).held) used (sizeimage c side)) _ (unless_keeps c (refuse_if (is_part_of_picture c side used) Inval None) _ (settled c (with_queue c side (qbuf_after (queue_of c side) index used stamp bytes)) r b (queue_same c side (qbuf_after (queue_of c side) index used stamp bytes) (held_job (queue_of c side) index (with_index index (queue_of c side).held) used stamp bytes))))
+    unless_keeps c (held_refusal (queue_of c side).side (with_index index (queue_of c side).held) used (sizeimage c side)) _ (unless_keeps c (refuse_if (is_no_whole_picture c side used) Inval None) _ (settled c (with_queue c side (qbuf_after (queue_of c side) index used stamp bytes)) r b (queue_same c side (qbuf_after (queue_of c side) index used stamp bytes) (held_job (queue_of c side) index (with_index index (queue_of c side).held) used stamp bytes))))
 row_keeps c r (DqBuf side block) bytes found b =
     block_keeps c (dqbuf_refusal (queue_of c side) (is_ended c side)) block _ (taken_keeps c r side (queue_of c side).done b)
 row_keeps c r (StreamOn side) bytes found b =

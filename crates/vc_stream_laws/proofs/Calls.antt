@@ -17,7 +17,7 @@ use Rattle.vc_base.specs.declared.Reply.TheVariants.{Done, Taken, Refused, Block
 use Rattle.vc_base.specs.Buffers.{Buffer, QueueState, is_empty, refuse_if, with_index, queued_buffer, queue_held, held_refusal, qbuf_refusal, qbuf_after, take_front, taken, streamon_refusal, streamon_after, streamoff_after}
 use Rattle.vc_model.specs.Coder.{the_coder}
 use Rattle.vc_model.specs.Context.{Context, Slot, Cause, drain, change, PhaseState, run, owe, last, stopped, with_queue, is_dec, is_enc, is_run, is_stopped, is_drained, sizeimage, settle}
-use Rattle.vc_model.specs.Answer.{Answer, unchanged, refused, answered, unless, unless_or_block, is_part_of_picture, taken_answer, both_stream, stop_answer, command_answer, streamoff_effect, after_capture_off, mark_after_restart, answer, context_answer}
+use Rattle.vc_model.specs.Answer.{Answer, unchanged, refused, answered, unless, unless_or_block, is_no_whole_picture, taken_answer, both_stream, stop_answer, command_answer, streamoff_effect, after_capture_off, mark_after_restart, answer, context_answer}
 use Rattle.vc_model.specs.Drains.{takes_capture, takes_a_buffer, done_now}
 use Rattle.vc_model.specs.Handed.{handed_by}
 use Rattle.vc_model.specs.Phases.{is_over, is_at_end, is_stopped_by_drain}
@@ -83,7 +83,7 @@ unfolding context_answer
 queued_out c index used stamp bytes found reply =
     let q = c.out in
     let first = qbuf_refusal q index used (sizeimage c Out) in
-    let second = refuse_if (is_part_of_picture c Out used) Inval None in
+    let second = refuse_if (is_no_whole_picture c Out used) Inval None in
     let effect = answered (with_queue c Out (qbuf_after q index used stamp bytes)) Done in
     let none = unless_none c first (unless c second effect) reply in
     let neither = unless_none c second effect (ap (λ o. (unless c o (unless c second effect)).reply) (sym none) ∙ reply) in

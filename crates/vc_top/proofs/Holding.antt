@@ -12,7 +12,7 @@ use Rattle.vc_base.specs.declared.Call.{Call}
 use Rattle.vc_base.specs.declared.Call.TheVariants.{Open, Close, EnumFmt, GetFmt, TryFmt, SetFmt, ReqBufs, CreateBufs, QueryBuf, QBuf, DqBuf, StreamOn, StreamOff, Subscribe, Unsubscribe, DqEvent, DecCmd, EncCmd, GetCtrl, SetCtrl, Poll}
 use Rattle.vc_base.specs.Buffers.{Buffer, QueueState, buffers, buffer_count, new_queue, with_index, held_refusal, refuse_if, queue_held, queued_buffer}
 use Rattle.vc_model.specs.Context.{Context, Slot, sizeimage, with_queue}
-use Rattle.vc_model.specs.Answer.{Answer, refused, answered, unless, is_part_of_picture, context_answer, answer}
+use Rattle.vc_model.specs.Answer.{Answer, refused, answered, unless, is_no_whole_picture, context_answer, answer}
 use Rattle.vc_model.specs.CoreSound.{IsSoundInCore, IsSoundCoreSlot}
 use Rattle.vc_model.specs.Sound.{count_index, OnceEach}
 use Rattle.vc_model.specs.Script.{HasUsedBytes}
@@ -121,11 +121,11 @@ held_below q i b once few e =
 
 abbrev queue_answer : Context → ℕ → Option Buffer → ℕ → Stamp → List ℕ → Answer
 queue_answer c index o used stamp bytes =
-    unless c (held_refusal c.out.side o used (sizeimage c Out)) (unless c (refuse_if (is_part_of_picture c Out used) Inval None) (answered (with_queue c Out (queue_held c.out index o used stamp bytes)) Done))
+    unless c (held_refusal c.out.side o used (sizeimage c Out)) (unless c (refuse_if (is_no_whole_picture c Out used) Inval None) (answered (with_queue c Out (queue_held c.out index o used stamp bytes)) Done))
 
 too_short : (c : Context) (index : ℕ) (b : Buffer) (used : ℕ) (stamp : Stamp) (bytes : List ℕ) → c.out.side ≡ Out → nat_lt b.size used ≡ true → queue_answer c index (Some b) used stamp bytes ≡ refused c Inval
 too_short c index b used stamp bytes side e =
-    ap (λ s. unless c (held_refusal s (Some b) used (sizeimage c Out)) (unless c (refuse_if (is_part_of_picture c Out used) Inval None) (answered (with_queue c Out (queue_held c.out index (Some b) used stamp bytes)) Done))) side ∙ ap (λ t. unless c (refuse_if t Inval (refuse_if (nat_lt b.size (sizeimage c Out)) Inval None)) (unless c (refuse_if (is_part_of_picture c Out used) Inval None) (answered (with_queue c Out (queue_held c.out index (Some b) used stamp bytes)) Done))) e
+    ap (λ s. unless c (held_refusal s (Some b) used (sizeimage c Out)) (unless c (refuse_if (is_no_whole_picture c Out used) Inval None) (answered (with_queue c Out (queue_held c.out index (Some b) used stamp bytes)) Done))) side ∙ ap (λ t. unless c (refuse_if t Inval (refuse_if (nat_lt b.size (sizeimage c Out)) Inval None)) (unless c (refuse_if (is_no_whole_picture c Out used) Inval None) (answered (with_queue c Out (queue_held c.out index (Some b) used stamp bytes)) Done))) e
 
 not_le : (a b : ℕ) → nat_le a b ≡ false → nat_lt b a ≡ true
 not_le a b e = grind arith
@@ -164,7 +164,7 @@ unfolding context_answer
 bytes_same c (QBuf Out index used stamp) bytes hold found u s f =
     held_same c index used stamp bytes hold u s f.out (with_index index c.out.held) refl
 bytes_same c (QBuf Cap index used stamp) bytes hold found u s f =
-    ap (λ q. unless c (held_refusal c.cap.side (with_index index c.cap.held) used (sizeimage c Cap)) (unless c (refuse_if (is_part_of_picture c Cap used) Inval None) (answered (with_queue c Cap q) Done))) (cap_same c.cap index (with_index index c.cap.held) used stamp [] bytes s.cap_side)
+    ap (λ q. unless c (held_refusal c.cap.side (with_index index c.cap.held) used (sizeimage c Cap)) (unless c (refuse_if (is_no_whole_picture c Cap used) Inval None) (answered (with_queue c Cap q) Done))) (cap_same c.cap index (with_index index c.cap.held) used stamp [] bytes s.cap_side)
 bytes_same c (Open kind) bytes hold found u s f = refl
 bytes_same c Close bytes hold found u s f = refl
 bytes_same c (EnumFmt side index) bytes hold found u s f = refl
