@@ -10,33 +10,7 @@ use Rattle.vc_base.specs.declared.Errno.{Errno}
 use Rattle.vc_base.specs.declared.Errno.TheVariants.{Again, Busy, Inval, Pipe}
 use Rattle.vc_base.specs.declared.Reply.{Reply}
 use Rattle.vc_base.specs.declared.Reply.TheVariants.{Info, Taken}
-
--- The flags of a buffer ("Buffer Flags").
-abbrev pub queued_flag : ℕ
-queued_flag = 2
-
-abbrev pub done_flag : ℕ
-done_flag = 4
-
-abbrev pub keyframe_flag : ℕ
-keyframe_flag = 8
-
-abbrev pub pframe_flag : ℕ
-pframe_flag = 16
-
-abbrev pub error_flag : ℕ
-error_flag = 64
-
-abbrev pub last_flag : ℕ
-last_flag = 1048576
-
--- the most buffers of a queue (VIDEO_MAX_FRAME)
-abbrev pub most_buffers : ℕ
-most_buffers = 32
-
--- the longest buffer, in bytes: a coded frame of the largest picture, header included
-abbrev pub longest_buffer : ℕ
-longest_buffer = 17694764
+use Rattle.vc_base.specs.Limits.{queued_flag, done_flag, error_flag, most_buffers, longest_buffer}
 
 -- One buffer (struct v4l2_buffer). `bytes` is the first `used` bytes of the payload, from the call that queues an OUTPUT
 -- buffer or the step that puts a CAPTURE buffer on done, until the buffer is held again.

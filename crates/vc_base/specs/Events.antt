@@ -9,18 +9,7 @@ use Rattle.vc_base.specs.declared.Errno.TheVariants.{NoEnt, Inval}
 use Rattle.vc_base.specs.declared.Reply.{Reply}
 use Rattle.vc_base.specs.declared.Reply.TheVariants.{Happened, Refused}
 use Rattle.vc_base.specs.Buffers.{refuse_if, is_empty}
-
--- the end of a drain (V4L2_EVENT_EOS)
-abbrev pub eos_event : ℕ
-eos_event = 2
-
--- a new resolution (V4L2_EVENT_SOURCE_CHANGE)
-abbrev pub source_change_event : ℕ
-source_change_event = 5
-
--- the most events that are pending
-abbrev pub most_events : ℕ
-most_events = 16
+use Rattle.vc_base.specs.Limits.{eos_event, source_change_event, most_events}
 
 -- One event that was raised.
 pub record Event : Type 0 where

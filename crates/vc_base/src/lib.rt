@@ -12,6 +12,8 @@ use std::alloc::AllocError;
 use thiserror::Error;
 
 pub mod flags;
+pub mod fourccs;
+pub mod limits;
 
 /// A queue of the device: OUTPUT carries what goes into it, CAPTURE what comes out
 /// (V4L2_BUF_TYPE_VIDEO_OUTPUT and V4L2_BUF_TYPE_VIDEO_CAPTURE).

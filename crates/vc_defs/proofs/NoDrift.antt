@@ -1,4 +1,6 @@
--- A decoder gives exactly the encoder's own pictures.
+-- A decoder gives exactly the encoder's own pictures, however many there are. Every frame is found where the encoder
+-- wrote it, since no magic stands inside it, and its body is read back as the encoder's reconstruction; so both go on
+-- from the same reference.
 use Rattle.std.proofs.Common.{◌≡◌, ◌≢◌, ◌∙◌, sym, ap, refl, subst, ℕ, suc, zero, ◌+◌, ◌-◌, ◌*◌, ◌/◌, ◌%◌, ◌<◌, ◌≤◌, inl, inr, List, [], ◌∷◌, ◌++◌, length, take, drop, get_or, map, arith, append_assoc, length-append, length-drop}
 use Rattle.std.specs.Prelude.{◌⊎◌, Bool, true, false, ◌&&◌, ◌||◌, not, nat_eq, nat_le, nat_lt, cond}
 use Rattle.std.specs.List.{flat_map, range_with_len, All}
@@ -12,23 +14,26 @@ use Rattle.std.proofs.lemmas.List.Folds.{list_any_none}
 use Rattle.std.proofs.lemmas.List.FromFn.{length-range_with_len, get_or-range_with_len}
 use Rattle.vc_defs.specs.declared.Geometry.{Geometry}
 use Rattle.vc_defs.specs.declared.Header.{Header}
-use Rattle.vc_defs.specs.Headers.{most_bytes, header_bytes, header_from, is_legal, is_legal_geometry, is_legal_size, size_suits}
+use Rattle.vc_defs.specs.Headers.{header_bytes, header_from, is_legal, is_legal_geometry, is_legal_size, size_suits}
+use Rattle.vc_base.specs.Limits.{most_bytes}
 use Rattle.vc_defs.specs.Bodies.{IsPicture, body_planes}
 use Rattle.vc_defs.specs.Places.{first_magic, Look, nothing, begun, no_header, unended, cut, whole, look_behind, look, Frame, Places, joined, places_at, places_from, places, is_claimed, leaves_a_byte}
-use Rattle.vc_defs.specs.Decoder.{FrameResult, Picture, Changed, GivenResult, BetweenFrames, ReferenceState, reference_planes, is_present, is_change, is_passed_over, is_next_number, same_geometry, follows_reference, frame_planes, picture_planes, present_after_header, given_at_header, given_by, given_at_end, given_then, given_in_frames, given_in, results}
+use Rattle.vc_defs.specs.Decoder.{FrameResult, Picture, Changed, GivenResult, BetweenFrames, ReferenceState, reference_planes, is_present, is_change}
+use Rattle.vc_defs.specs.Decoder.{is_passed_over, is_next_number, same_geometry, follows_reference, frame_planes, picture_planes, present_after_header}
+use Rattle.vc_defs.specs.Decoder.{given_at_header, given_by, given_at_end, given_then, given_in_frames, given_in, results}
 use Rattle.vc_defs.specs.Encoder.{RunRates, EncoderState, fresh_encoder, Encoded, encoded_bytes, is_key_due, next_encoded, encoder_after, encoded_after, encoded}
 use Rattle.vc_defs.specs.Laws.{AreRates, IsReferenceOf, IsEncoderState, pictures_at, NoDrift}
-use Rattle.vc_defs.proofs.Pictures.{AreSamples}
-use Rattle.vc_defs.proofs.HeaderBack.{header_back}
-use Rattle.vc_defs.proofs.Looking.{is_magic, not_true, magic_inside}
-use Rattle.vc_defs.proofs.Continuing.{Skips, not_start_long, places_shifted}
-use Rattle.vc_defs.proofs.InnerMagic.{inner_magic, magic_there, ff_there}
-use Rattle.vc_defs.proofs.Encoding.{encoded_fits}
-use Rattle.vc_defs.proofs.Ordering.{Seen, seen}
-use Rattle.vc_defs.proofs.Splitting.{Heads, first_at_front, look_front}
-use Rattle.vc_defs.proofs.Resuming.{same_geometry_is}
-use Rattle.vc_defs.proofs.Waiting.{length-header_bytes}
-use Rattle.vc_defs.proofs.WrittenBodies.{body_back, NoFull, no_full_at, body_no_full}
+use Rattle.vc_defs.proofs.DecodedIsPicture.{AreSamples}
+use Rattle.vc_defs.proofs.HeadersAreRead.{header_back}
+use Rattle.vc_defs.proofs.KnownPlacesStay.{is_magic, not_true, magic_inside}
+use Rattle.vc_defs.proofs.PlacesContinue.{Skips, not_start_long, places_shifted}
+use Rattle.vc_defs.proofs.NoMagicInHeaders.{inner_magic, magic_there, ff_there}
+use Rattle.vc_defs.proofs.EncodedFits.{encoded_fits}
+use Rattle.vc_defs.proofs.FindsInOrder.{Seen, seen}
+use Rattle.vc_defs.proofs.PlacesBehindACut.{Heads, first_at_front, look_front}
+use Rattle.vc_defs.proofs.RunsResume.{same_geometry_is}
+use Rattle.vc_defs.proofs.StateBetweenRuns.{length-header_bytes}
+use Rattle.vc_defs.proofs.WrittenBodiesAreRead.{body_back, NoFull, no_full_at, body_no_full}
 
 -- a frame as an encoder writes it
 pub record IsWritten (e : Encoded) : Type 0 where
@@ -117,7 +122,10 @@ look_whole e rest w =
     by_inner None far = by_end
     by_inner (Some n) far =
         let late : 44 + e.header.size < 8 + n + 8 = far n refl in
-        cond-false (nat_le (8 + n + 8) (44 + e.header.size)) (cut 0 e.header (0 + 8 + n)) (cond (nat_le (44 + e.header.size) (length xs)) (whole 0 e.header (take e.header.size (drop 44 xs))) (unended 0 e.header)) (grind (arith, nat_tests)) ∙ by_end
+        cond-false (nat_le (8 + n + 8) (44 + e.header.size)) (cut 0 e.header (0 + 8 + n))
+        (cond (nat_le (44 + e.header.size) (length xs)) (whole 0 e.header (take e.header.size (drop 44 xs))) (unended 0 e.header))
+        (grind (arith, nat_tests))
+        ∙ by_end
 
 -- the first bytes of a header
 at_least : (h : Header) (rest : List ℕ) → 8 ≤ length (header_bytes h ++ rest)
@@ -197,7 +205,10 @@ abbrev Has : ℕ → List Encoded → Places → Type 0
 Has c es p = (p.frames ≡ frames_list c es) × (p.unfinished ≡ None)
 
 -- one frame, and what is found behind it
-one_place : (t c : ℕ) (e : Encoded) (es : List Encoded) (rest : List ℕ) → IsWritten e → Has (c + 44 + e.header.size) es (places_from t most_bytes (c + (0 + 44 + e.header.size - 7)) (drop (0 + 44 + e.header.size - 7) (encoded_bytes e) ++ rest)) →
+one_place :
+    (t c : ℕ) (e : Encoded) (es : List Encoded) (rest : List ℕ) → IsWritten e
+    → Has (c + 44 + e.header.size) es (places_from t most_bytes (c + (0 + 44 + e.header.size - 7)) (drop (0 + 44 + e.header.size - 7) (encoded_bytes e) ++ rest))
+    →
     Has c (e ∷ es) (places_from (suc t) most_bytes c (encoded_bytes e ++ rest))
 unfolding frames_list
 one_place t c e es rest w later =
@@ -268,7 +279,9 @@ none_left : (es : List Encoded) → Written es → leaves_a_byte (flat_map encod
 unfolding places
 none_left es w =
     list_any_none (λ i. not (is_claimed (places (flat_map encoded_bytes es) most_bytes).frames i)) (range_with_len 0 (length (flat_map encoded_bytes es)))
-    (All-from_get_or (λ i. not (is_claimed (places (flat_map encoded_bytes es) most_bytes).frames i) ≡ false) (range_with_len 0 (length (flat_map encoded_bytes es))) 0 (λ i h. at i (omega (arith, h, length-range_with_len 0 (length (flat_map encoded_bytes es))))))
+    (All-from_get_or (λ i. not (is_claimed (places (flat_map encoded_bytes es) most_bytes).frames i) ≡ false)
+    (range_with_len 0 (length (flat_map encoded_bytes es))) 0
+    (λ i h. at i (omega (arith, h, length-range_with_len 0 (length (flat_map encoded_bytes es))))))
   where
     has : Has 0 es (places (flat_map encoded_bytes es) most_bytes)
     has = written_places (length (flat_map encoded_bytes es) + 1) 0 es w (omega arith)
@@ -300,14 +313,20 @@ or_true true = refl
 or_true false = refl
 
 -- a frame of the present geometry that goes on from the reference
-good_frame : (g : Geometry) (r : ReferenceState) (f : Frame) (body : List ℕ) (planes : List (List ℕ)) (rest : BetweenFrames → List GivenResult) → f.body ≡ Some body → f.header.geometry ≡ g → (f.header.key || follows_reference f.header (Some r)) ≡ true → body_planes f.header r.planes body ≡ Some planes →
+good_frame :
+    (g : Geometry) (r : ReferenceState) (f : Frame) (body : List ℕ) (planes : List (List ℕ)) (rest : BetweenFrames → List GivenResult)
+    → f.body ≡ Some body → f.header.geometry ≡ g → (f.header.key || follows_reference f.header (Some r)) ≡ true
+    → body_planes f.header r.planes body ≡ Some planes →
     given_then (is_passed_over f.header (Some r)) f (record { geometry = Some g; reference = Some r }) rest
     ≡ given_by f (record { geometry = Some g; reference = Some r }) (Some planes) ∷ rest (given_by f (record { geometry = Some g; reference = Some r }) (Some planes)).present
 good_frame g r f body planes rest b h follows read =
     let now : BetweenFrames = record { geometry = Some g; reference = Some r } in
     let same : same_geometry g f.header.geometry ≡ true = ap (λ i. same_geometry g i) h ∙ same_geometry_is g in
     let none : is_change f.header (Some g) ≡ false = ap (λ x. f.header.key && not x) same ∙ and_false f.header.key in
-    let first : given_at_header f.position f.header now ≡ [] = cond-false (is_change f.header (Some g)) (record { result = record { position = f.position; known = f.position + 44; kind = Changed f.header.geometry }; present = record { geometry = Some f.header.geometry; reference = None } } ∷ []) [] none in
+    let first : given_at_header f.position f.header now ≡ [] =
+    cond-false (is_change f.header (Some g))
+    (record { result = record { position = f.position; known = f.position + 44; kind = Changed f.header.geometry }; present = record { geometry = Some f.header.geometry; reference = None } } ∷ [])
+    [] none in
     let still : present_after_header f.header now ≡ now = cond-false (is_change f.header (Some g)) (record { geometry = Some f.header.geometry; reference = None }) now none in
     let present : (f.header.key || is_present (Some g) f.header.geometry) ≡ true = ap (λ x. f.header.key || x) same ∙ or_true f.header.key in
     let good : picture_planes f now ≡ Some planes =
@@ -343,7 +362,8 @@ reference_samples g (Some r) p = p.1.1
 next_back : (g : Geometry) (s : EncoderState) (planes : List (List ℕ)) (rates : RunRates) → is_legal_geometry g ≡ true → IsEncoderState g s → IsPicture g planes →
     body_planes (next_encoded g s planes rates).header (reference_planes s.reference) (next_encoded g s planes rates).body ≡ Some (next_encoded g s planes rates).planes
 next_back g s planes rates legal state p =
-    body_back g (is_key_due s.reference s.since_key rates.gop) (cond (is_key_due s.reference s.since_key rates.gop) rates.iqp rates.pqp) s.since_reset planes (reference_planes s.reference) (wide_enough g legal) p (reference_samples g s.reference state.0)
+    body_back g (is_key_due s.reference s.since_key rates.gop) (cond (is_key_due s.reference s.since_key rates.gop) rates.iqp rates.pqp) s.since_reset
+    planes (reference_planes s.reference) (wide_enough g legal) p (reference_samples g s.reference state.0)
 
 next_written : (g : Geometry) (s : EncoderState) (planes : List (List ℕ)) (rates : RunRates) → is_legal_geometry g ≡ true → IsEncoderState g s → IsPicture g planes → IsWritten (next_encoded g s planes rates)
 next_written g s planes rates legal state p =
@@ -351,7 +371,9 @@ next_written g s planes rates legal state p =
     record {
       legal = f.0;
       size = f.1;
-      no_full = body_no_full g (is_key_due s.reference s.since_key rates.gop) (cond (is_key_due s.reference s.since_key rates.gop) rates.iqp rates.pqp) s.since_reset planes (reference_planes s.reference) p (reference_samples g s.reference state.0);
+      no_full =
+          body_no_full g (is_key_due s.reference s.since_key rates.gop) (cond (is_key_due s.reference s.since_key rates.gop) rates.iqp rates.pqp)
+          s.since_reset planes (reference_planes s.reference) p (reference_samples g s.reference state.0);
     }
 
 next_follows : (g : Geometry) (s : EncoderState) (planes : List (List ℕ)) (rates : RunRates) → is_legal_geometry g ≡ true → IsEncoderState g s → IsPicture g planes → Follows g (encoder_after s (next_encoded g s planes rates))
@@ -386,7 +408,9 @@ all_written g s (picture ∷ pictures) legal state p =
     let here : IsPicture g picture.0 = (All-head (λ (p : List (List ℕ) × RunRates). IsPicture g p.0 × AreRates p.1) picture pictures p).0 in
     let e : Encoded = next_encoded g s picture.0 picture.1 in
     All-cons IsWritten (next_encoded g s picture.0 picture.1) (encoded_after g (encoder_after s (next_encoded g s picture.0 picture.1)) pictures) (next_written g s picture.0 picture.1 legal state here)
-    (all_written g (encoder_after s (next_encoded g s picture.0 picture.1)) pictures legal (encoder_state g (encoder_after s (next_encoded g s picture.0 picture.1)) (next_follows g s picture.0 picture.1 legal state here)) (All-tail (λ (p : List (List ℕ) × RunRates). IsPicture g p.0 × AreRates p.1) picture pictures p))
+    (all_written g (encoder_after s (next_encoded g s picture.0 picture.1)) pictures legal
+    (encoder_state g (encoder_after s (next_encoded g s picture.0 picture.1)) (next_follows g s picture.0 picture.1 legal state here))
+    (All-tail (λ (p : List (List ℕ) × RunRates). IsPicture g p.0 × AreRates p.1) picture pictures p))
 
 -- what stands behind a frame that gave its picture
 abbrev after_picture : Geometry → Encoded → BetweenFrames
@@ -401,7 +425,9 @@ picture_result c e es rest w later =
     ∙ ap (λ n. record { position = c; known = n; kind = Picture e.header.geometry e.header.key e.planes } ∷ pictures_at n es) end
 
 -- a frame behind another one
-later_step : (g : Geometry) (r : ReferenceState) (c : ℕ) (e : Encoded) (es : List Encoded) → e.header.geometry ≡ g → (e.header.key || follows_reference e.header (Some r)) ≡ true → body_planes e.header r.planes e.body ≡ Some e.planes → IsWritten e →
+later_step :
+    (g : Geometry) (r : ReferenceState) (c : ℕ) (e : Encoded) (es : List Encoded) → e.header.geometry ≡ g
+    → (e.header.key || follows_reference e.header (Some r)) ≡ true → body_planes e.header r.planes e.body ≡ Some e.planes → IsWritten e →
     results_only (given_in_frames (frames_list (c + 44 + e.header.size) es) None (after_picture g e)) ≡ pictures_at (c + 44 + e.header.size) es →
     results_only (given_in_frames (frames_list c (e ∷ es)) None (record { geometry = Some g; reference = Some r })) ≡ pictures_at c (e ∷ es)
 unfolding frames_list
@@ -422,9 +448,13 @@ later_pictures g s c (picture ∷ pictures) f legal p =
     let follows : follows_reference (next_encoded g s picture.0 picture.1).header (Some f.last) ≡ true = number_follows g s f (next_encoded g s picture.0 picture.1).header refl refl in
     later_step g f.last c (next_encoded g s picture.0 picture.1) (encoded_after g (encoder_after s (next_encoded g s picture.0 picture.1)) pictures) refl
     (ap (λ b. (next_encoded g s picture.0 picture.1).header.key || b) follows ∙ or_true (next_encoded g s picture.0 picture.1).header.key)
-    (subst (λ (o : Option ReferenceState). body_planes (next_encoded g s picture.0 picture.1).header (reference_planes o) (next_encoded g s picture.0 picture.1).body ≡ Some (next_encoded g s picture.0 picture.1).planes) f.is (next_back g s picture.0 picture.1 legal state here))
+    (subst (λ (o : Option ReferenceState).
+    body_planes (next_encoded g s picture.0 picture.1).header (reference_planes o) (next_encoded g s picture.0 picture.1).body ≡ Some (next_encoded g s picture.0 picture.1).planes)
+    f.is (next_back g s picture.0 picture.1 legal state here))
     (next_written g s picture.0 picture.1 legal state here)
-    (later_pictures g (encoder_after s (next_encoded g s picture.0 picture.1)) (c + 44 + (next_encoded g s picture.0 picture.1).header.size) pictures (next_follows g s picture.0 picture.1 legal state here) legal (All-tail (λ (p : List (List ℕ) × RunRates). IsPicture g p.0 × AreRates p.1) picture pictures p))
+    (later_pictures g (encoder_after s (next_encoded g s picture.0 picture.1)) (c + 44 + (next_encoded g s picture.0 picture.1).header.size) pictures
+    (next_follows g s picture.0 picture.1 legal state here) legal
+    (All-tail (λ (p : List (List ℕ) × RunRates). IsPicture g p.0 × AreRates p.1) picture pictures p))
 
 -- the first frame gives the change and its picture
 first_step : (g : Geometry) (c : ℕ) (e : Encoded) (es : List Encoded) → e.header.geometry ≡ g → e.header.key ≡ true → body_planes e.header [] e.body ≡ Some e.planes → IsWritten e →

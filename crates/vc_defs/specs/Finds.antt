@@ -106,7 +106,7 @@ fed_by kept limit bytes stamp (next ∷ later) =
 abbrev pub told_of_tail : List ℕ → ℕ
 told_of_tail tail = if nat_le 44 (length tail) then 1 else 0
 
--- One call over the bytes of a piece: the next find over the tail and the shortest front of the piece after which there
+-- One call over the bytes of a piece: the next find over the tail and the shortest prefix of the piece after which there
 -- is one, under a limit. Where all finds were told the whole piece is taken.
 unfoldable pub fed : KeptBytes → ℕ → List ℕ → Stamp → FedStep
 fed kept limit piece stamp = fed_by kept limit (kept.tail ++ piece) stamp (drop (told_of_tail kept.tail) (finds (kept.tail ++ piece) limit))

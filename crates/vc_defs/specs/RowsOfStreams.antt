@@ -8,12 +8,12 @@ use Rattle.vc_base.specs.declared.Fourcc.{Fourcc}
 use Rattle.vc_defs.specs.declared.Layout.{Layout}
 use Rattle.vc_defs.specs.declared.Layout.TheVariants.{C420, C422}
 use Rattle.vc_defs.specs.declared.Geometry.{Geometry}
-use Rattle.vc_defs.specs.Headers.{most_bytes}
+use Rattle.vc_base.specs.Limits.{most_bytes}
 use Rattle.vc_defs.specs.Raw.{raw_of, planes_of, yu12, nv12, yuyv}
 use Rattle.vc_defs.specs.Decoder.{FrameResult, Picture, Changed, results}
 use Rattle.vc_defs.specs.Encoder.{Encoded}
 use Rattle.vc_defs.specs.Outputs.{frames_of, frames_bytes, decode_output, is_damaged_input, default_rates, chained}
-use Rattle.vc_defs.specs.Named.{words32, frame_f, frame_g, frame_h, frame_f4, frame_g4, frame_h4, frame_of, zeros_body, small, grey_bytes, grey_planes}
+use Rattle.vc_defs.specs.Named.{words32, frame_f, frame_g, frame_h, frame_f4, frame_g4, frame_h4, frame_of, written_as, zeros_body, small, grey_bytes, grey_planes}
 
 abbrev pub change_at : ℕ → FrameResult
 change_at p = record { position = p; known = p + 44; kind = Changed small }
@@ -27,16 +27,12 @@ pub record ResultsOfFrames : Type 0 where
   pub f_and_g : results (frame_f ++ frame_g) most_bytes None None ≡ change_at 0 ∷ picture_at 0 true ∷ picture_at 48 false ∷ []
   pub g_alone : results frame_g most_bytes None None ≡ []
 
--- pictures' frames as an encoder writes them, and the planes that a decoder will have
+-- pictures' frames as an encoder writes them, and its own reconstructions of the pictures
 abbrev pub written : Geometry → List (List (List ℕ)) → List ℕ
 written g pictures = frames_bytes (frames_of g default_rates pictures)
 
 abbrev pub rebuilt : Geometry → List (List (List ℕ)) → List (List (List ℕ))
 rebuilt g pictures = map (λ (e : Encoded). e.planes) (frames_of g default_rates pictures)
-
--- a frame with these flags and this body
-abbrev pub written_as : ℕ → List ℕ → List ℕ
-written_as flags body = frame_of 4 16 16 flags 0 (length body) body
 
 -- a picture whose samples are all the same
 abbrev pub plain : ℕ → List (List ℕ)
@@ -58,7 +54,8 @@ with_chroma layout = record { width = 16; height = 16; layout = layout }
 abbrev pub grey_chroma : ℕ → List (List ℕ)
 grey_chroma n = grey_bytes 256 ∷ grey_bytes n ∷ grey_bytes n ∷ []
 
--- the frames of pictures
+-- The frames that an encoder writes for pictures, what it reconstructs of some, and what a decoder gives for the frames of
+-- one picture twice.
 pub record FramesOfPictures : Type 0 where
   pub two_pictures : written small (grey_planes 256 ∷ grey_planes 256 ∷ []) ≡ frame_f4 ++ frame_g4 0x00280000
   pub all_255 : written small (plain 255 ∷ []) ≡ written_as 0x00080400 (0x00 ∷ 0x06 ∷ 0x7f ∷ 0x00 ∷ 0x00 ∷ 0x0f ∷ [])

@@ -38,7 +38,8 @@ pub fn results_of_frames()
     ensures { ResultsOfFrames }
 {}
 
-/// The frames that an encoder writes for pictures, and the pictures that are decoded of them.
+/// The frames that an encoder writes for pictures, its own reconstructions of some, and what a decoder gives for the frames of
+/// one picture twice.
 pub fn frames_of_pictures()
     ensures { FramesOfPictures }
 {}

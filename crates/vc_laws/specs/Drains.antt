@@ -8,7 +8,8 @@ use Rattle.vc_base.specs.declared.Call.{Call}
 use Rattle.vc_base.specs.declared.Call.TheVariants.{Close, StreamOff, DecCmd, EncCmd}
 use Rattle.vc_base.specs.declared.Reply.{Reply}
 use Rattle.vc_base.specs.declared.Reply.TheVariants.{Done}
-use Rattle.vc_base.specs.Buffers.{Buffer, last_flag}
+use Rattle.vc_base.specs.Buffers.{Buffer}
+use Rattle.vc_base.specs.Limits.{last_flag}
 use Rattle.vc_defs.specs.Decoder.{FrameResult}
 use Rattle.vc_model.specs.Coder.{Coder, the_coder}
 use Rattle.vc_model.specs.Context.{Context, Slot, Running, is_run, is_stopped}
@@ -77,7 +78,8 @@ is_off e told = false
 -- A drain is aborted by a StreamOff or a Close alone.
 abbrev pub AbortedByOff : Type 0
 AbortedByOff =
-    (coder : Coder) (events : List SoloEvent) (e : SoloEvent) (before : Context) → solo_slot coder None events ≡ Some before → let r = solo_step coder (Some before) e in aborts_drain (Some before) e r.told r.slot ≡ true → is_off e r.told ≡ true
+    (coder : Coder) (events : List SoloEvent) (e : SoloEvent) (before : Context) → solo_slot coder None events ≡ Some before
+    → let r = solo_step coder (Some before) e in aborts_drain (Some before) e r.told r.slot ≡ true → is_off e r.told ≡ true
 
 -- The LAST buffer
 
@@ -119,12 +121,16 @@ pub record IsWholeDrain (seg : Segment) (mark next : ℕ) : Type 0 where
 
 abbrev pub DrainsAreWhole : Type 0
 DrainsAreWhole =
-    (coder : Coder) (events : List SoloEvent) (e : SoloEvent) (before after : Context) (mark : ℕ) → AreHonest (solo_run coder None events) → solo_slot coder None events ≡ Some before → (solo_step coder (Some before) e).slot ≡ Some after → before.kind ≡ Dec → gives_last before after ≡ true → after.mark ≡ Some mark → IsWholeDrain (segment_of coder (events ++ e ∷ [])) mark after.out.next_ordinal
+    (coder : Coder) (events : List SoloEvent) (e : SoloEvent) (before after : Context) (mark : ℕ) → AreHonest (solo_run coder None events)
+    → solo_slot coder None events ≡ Some before → (solo_step coder (Some before) e).slot ≡ Some after → before.kind ≡ Dec
+    → gives_last before after ≡ true → after.mark ≡ Some mark → IsWholeDrain (segment_of coder (events ++ e ∷ [])) mark after.out.next_ordinal
 
 -- Where a decoder gives the LAST buffer of a drain, all results of the segment's bytes were given.
 abbrev pub DrainsGiveAll : Type 0
 DrainsGiveAll =
-    (events : List SoloEvent) (e : SoloEvent) (before after : Context) (r : Running) → solo_slot the_coder None events ≡ Some before → (solo_step the_coder (Some before) e).slot ≡ Some after → before.kind ≡ Dec → gives_last before after ≡ true → let seg = segment_of the_coder (events ++ e ∷ []) in seg.first ≡ Some r → whats seg ≡ results_of seg r
+    (events : List SoloEvent) (e : SoloEvent) (before after : Context) (r : Running) → solo_slot the_coder None events ≡ Some before
+    → (solo_step the_coder (Some before) e).slot ≡ Some after → before.kind ≡ Dec → gives_last before after ≡ true
+    → let seg = segment_of the_coder (events ++ e ∷ []) in seg.first ≡ Some r → whats seg ≡ results_of seg r
 
 -- Pictures
 
@@ -159,12 +165,16 @@ ArePicturesOf _ _ = ⊥
 -- An encoder's runs consume its sources in order, each once: those that do not wait, where the user took none back.
 abbrev pub EncodesInOrder : Type 0
 EncodesInOrder =
-    (coder : Coder) (events : List SoloEvent) (c : Context) → solo_slot coder None events ≡ Some c → c.kind ≡ Enc → took_back coder events ≡ false → let seg = segment_of coder events in (gone : List Buffer) × (seg.sources ≡ gone ++ (c.out.job ++ c.out.ready)) × ArePicturesOf seg.pictures gone
+    (coder : Coder) (events : List SoloEvent) (c : Context) → solo_slot coder None events ≡ Some c → c.kind ≡ Enc → took_back coder events ≡ false
+    → let seg = segment_of coder events in (gone : List Buffer) × (seg.sources ≡ gone ++ (c.out.job ++ c.out.ready)) × ArePicturesOf seg.pictures gone
 
 -- Where an encoder gives the LAST buffer of a drain, its runs consumed the sources before the mark, each once and in order.
 abbrev pub DrainsEncodeAll : Type 0
 DrainsEncodeAll =
-    (coder : Coder) (events : List SoloEvent) (e : SoloEvent) (before after : Context) (mark : ℕ) → solo_slot coder None events ≡ Some before → (solo_step coder (Some before) e).slot ≡ Some after → before.kind ≡ Enc → gives_last before after ≡ true → after.mark ≡ Some mark → took_back coder (events ++ e ∷ []) ≡ false → let seg = segment_of coder (events ++ e ∷ []) in ArePicturesOf seg.pictures (before_mark mark seg.sources)
+    (coder : Coder) (events : List SoloEvent) (e : SoloEvent) (before after : Context) (mark : ℕ) → solo_slot coder None events ≡ Some before
+    → (solo_step coder (Some before) e).slot ≡ Some after → before.kind ≡ Enc → gives_last before after ≡ true → after.mark ≡ Some mark
+    → took_back coder (events ++ e ∷ []) ≡ false
+    → let seg = segment_of coder (events ++ e ∷ []) in ArePicturesOf seg.pictures (before_mark mark seg.sources)
 
 -- Changes of the resolution
 
@@ -199,7 +209,9 @@ IsAfterResults before after b =
 
 abbrev pub ResultsBeforeChange : Type 0
 ResultsBeforeChange =
-    (events : List SoloEvent) (e : SoloEvent) (before after : Context) → solo_slot the_coder None events ≡ Some before → (solo_step the_coder (Some before) e).slot ≡ Some after → before.kind ≡ Dec → gives_change before after ≡ true → (b : Buffer) × IsAfterResults (segment_of the_coder events) (segment_of the_coder (events ++ e ∷ [])) b
+    (events : List SoloEvent) (e : SoloEvent) (before after : Context) → solo_slot the_coder None events ≡ Some before
+    → (solo_step the_coder (Some before) e).slot ≡ Some after → before.kind ≡ Dec → gives_change before after ≡ true
+    → (b : Buffer) × IsAfterResults (segment_of the_coder events) (segment_of the_coder (events ++ e ∷ [])) b
 
 -- after a change comes nothing, or a picture or a damage of the same frame
 abbrev pub IsAnswered : FrameResult → List FrameResult → Type 0
@@ -213,7 +225,8 @@ ChangesAreAnswered (r ∷ later) = IsAnswered r later × ChangesAreAnswered late
 -- The next result of a segment after a change is that of the frame that raised it.
 abbrev pub FrameAfterChange : Type 0
 FrameAfterChange =
-    (events : List SoloEvent) (c : Context) (r : Running) → solo_slot the_coder None events ≡ Some c → c.kind ≡ Dec → (segment_of the_coder events).first ≡ Some r → ChangesAreAnswered (whats (segment_of the_coder events))
+    (events : List SoloEvent) (c : Context) (r : Running) → solo_slot the_coder None events ≡ Some c → c.kind ≡ Dec
+    → (segment_of the_coder events).first ≡ Some r → ChangesAreAnswered (whats (segment_of the_coder events))
 
 -- Two runs
 
@@ -231,4 +244,5 @@ pub record EndsInDrain (events : List SoloEvent) (e : SoloEvent) (r : Running) :
 -- first run and the same bytes gave the same pictures and damages, in the same order.
 abbrev pub SameDrainsSameResults : Type 0
 SameDrainsSameResults =
-    (one other : List SoloEvent) (e f : SoloEvent) (r q : Running) → EndsInDrain one e r → EndsInDrain other f q → let s = segment_of the_coder (one ++ e ∷ []) in let t = segment_of the_coder (other ++ f ∷ []) in r.limit ≡ q.limit → r.geometry ≡ q.geometry → s.bytes ≡ t.bytes → whats s ≡ whats t
+    (one other : List SoloEvent) (e f : SoloEvent) (r q : Running) → EndsInDrain one e r → EndsInDrain other f q
+    → let s = segment_of the_coder (one ++ e ∷ []) in let t = segment_of the_coder (other ++ f ∷ []) in r.limit ≡ q.limit → r.geometry ≡ q.geometry → s.bytes ≡ t.bytes → whats s ≡ whats t

@@ -47,10 +47,14 @@ IsInFirst fourcc (Changed geometry) = Unit {0}
 -- A client that asked for no format of CAPTURE since it opened the slot gets each picture in the first raw format of its layout.
 abbrev pub PicturesAreInFirst : Type 0
 PicturesAreInFirst =
-    (events : List SoloEvent) (c : Context) → solo_slot the_coder None events ≡ Some c → c.kind ≡ Dec → asked_format the_coder events ≡ false → All (λ (x : SegmentResult). IsInFirst x.fourcc x.what.kind) (segment_of the_coder events).results
+    (events : List SoloEvent) (c : Context) → solo_slot the_coder None events ≡ Some c → c.kind ≡ Dec → asked_format the_coder events ≡ false
+    → All (λ (x : SegmentResult). IsInFirst x.fourcc x.what.kind) (segment_of the_coder events).results
 
 -- Over a run of one segment that drops nothing, whose runs gave all results of the bytes that they consumed, such a client gets
 -- the pictures that the sequential decoder gives for these bytes, each in the first raw format of its layout, and nothing else.
 abbrev pub DecodersHandOutPictures : Type 0
 DecodersHandOutPictures =
-    (events more : List SoloEvent) (d : Context) (r : Running) → d.kind ≡ Dec → IsTakenWhole the_coder events more d → asked_format the_coder (events ++ more) ≡ false → let seg = segment_of the_coder (events ++ more) in seg.first ≡ Some r → seg.given ≡ true → handed_in the_coder events more ≡ flat_map (λ (x : FrameResult). picture_bytes x.kind) (results_of seg r)
+    (events more : List SoloEvent) (d : Context) (r : Running) → d.kind ≡ Dec → IsTakenWhole the_coder events more d
+    → asked_format the_coder (events ++ more) ≡ false
+    → let seg = segment_of the_coder (events ++ more) in
+    seg.first ≡ Some r → seg.given ≡ true → handed_in the_coder events more ≡ flat_map (λ (x : FrameResult). picture_bytes x.kind) (results_of seg r)

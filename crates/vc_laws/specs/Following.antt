@@ -5,7 +5,8 @@ use mathlib.Core.List.{IsPrefix}
 use Rattle.std.specs.List.{filter, All}
 use Rattle.vc_base.specs.declared.Kind.TheVariants.{Enc, Dec}
 use Rattle.vc_base.specs.declared.Format.{Format}
-use Rattle.vc_base.specs.Buffers.{Buffer, last_flag, error_flag, zero_stamp}
+use Rattle.vc_base.specs.Buffers.{Buffer, zero_stamp}
+use Rattle.vc_base.specs.Limits.{last_flag, error_flag}
 use Rattle.vc_defs.specs.Raw.{geometry_of, planes_of, raw_of}
 use Rattle.vc_defs.specs.Decoder.{FrameResult, ResultKind, Picture, Damaged, Changed, results}
 use Rattle.vc_defs.specs.Encoder.{RunRates, Encoded, encoded, encoded_bytes}
@@ -44,7 +45,8 @@ pub record FollowsDecoder (seg : Segment) (r : Running) : Type 0 where
 -- `r` is what the first run of the segment took; before it a segment has neither bytes nor results.
 abbrev pub Follows : Type 0
 Follows =
-    (events : List SoloEvent) (c : Context) (r : Running) → solo_slot the_coder None events ≡ Some c → c.kind ≡ Dec → (segment_of the_coder events).first ≡ Some r → FollowsDecoder (segment_of the_coder events) r
+    (events : List SoloEvent) (c : Context) (r : Running) → solo_slot the_coder None events ≡ Some c → c.kind ≡ Dec
+    → (segment_of the_coder events).first ≡ Some r → FollowsDecoder (segment_of the_coder events) r
 
 -- a segment without a run
 pub record IsWithoutRun (seg : Segment) : Type 0 where
@@ -112,7 +114,8 @@ by_runs bs = filter is_by_run bs
 -- The CAPTURE buffers that a segment's runs put on done are its results other than changes, one for one.
 abbrev pub RetiredAreResults : Type 0
 RetiredAreResults =
-    (events : List SoloEvent) (c : Context) → solo_slot the_coder None events ≡ Some c → c.kind ≡ Dec → let seg = segment_of the_coder events in OneForOne (in_buffers seg.results) (by_runs seg.retired)
+    (events : List SoloEvent) (c : Context) → solo_slot the_coder None events ≡ Some c → c.kind ≡ Dec
+    → let seg = segment_of the_coder events in OneForOne (in_buffers seg.results) (by_runs seg.retired)
 
 -- the CAPTURE buffer is that of the picture's frame: the frame's bytes, their number, its flags and the picture's stamp
 abbrev pub IsFrameIn : EncodedPicture → Buffer → Type 0
@@ -126,4 +129,5 @@ FrameForFrame _ _ = ⊥
 -- The CAPTURE buffers that an encoder's runs put on done are the frames of the segment, one for one.
 abbrev pub RetiredAreFrames : Type 0
 RetiredAreFrames =
-    (coder : Coder) (events : List SoloEvent) (c : Context) → solo_slot coder None events ≡ Some c → c.kind ≡ Enc → let seg = segment_of coder events in FrameForFrame seg.pictures (by_runs seg.retired)
+    (coder : Coder) (events : List SoloEvent) (c : Context) → solo_slot coder None events ≡ Some c → c.kind ≡ Enc
+    → let seg = segment_of coder events in FrameForFrame seg.pictures (by_runs seg.retired)

@@ -123,7 +123,8 @@ SoughtBytes =
 abbrev pub encoder_segment : Segment
 encoder_segment =
     segment_of the_coder
-    (asks (Open Enc) ∷ asks (SetFmt Out (grey_format 16 16 0)) ∷ asks (ReqBufs Out 1) ∷ asks (ReqBufs Cap 1) ∷ queues 0 256 5 (grey_bytes 256) ∷ queues_empty 0 ∷ asks (StreamOn Out) ∷ asks (StreamOn Cap) ∷ [] ++ runs)
+    (asks (Open Enc) ∷ asks (SetFmt Out (grey_format 16 16 0)) ∷ asks (ReqBufs Out 1) ∷ asks (ReqBufs Cap 1) ∷ queues 0 256 5 (grey_bytes 256)
+    ∷ queues_empty 0 ∷ asks (StreamOn Out) ∷ asks (StreamOn Cap) ∷ [] ++ runs)
 
 abbrev pub EncoderFrames : Type 0
 EncoderFrames = map (λ (p : EncodedPicture). p.frame) encoder_segment.pictures ≡ frame_f4 ∷ []
@@ -131,7 +132,8 @@ EncoderFrames = map (λ (p : EncodedPicture). p.frame) encoder_segment.pictures 
 -- the same encoder, and a drain of its one picture
 abbrev pub encoder_drain : List SoloEvent
 encoder_drain =
-    asks (Open Enc) ∷ asks (SetFmt Out (grey_format 16 16 0)) ∷ asks (ReqBufs Out 1) ∷ asks (ReqBufs Cap 1) ∷ queues 0 256 5 (grey_bytes 256) ∷ queues_empty 0 ∷ asks (StreamOn Out) ∷ asks (StreamOn Cap) ∷ asks (EncCmd 1) ∷ [] ++ runs
+    asks (Open Enc) ∷ asks (SetFmt Out (grey_format 16 16 0)) ∷ asks (ReqBufs Out 1) ∷ asks (ReqBufs Cap 1) ∷ queues 0 256 5 (grey_bytes 256)
+    ∷ queues_empty 0 ∷ asks (StreamOn Out) ∷ asks (StreamOn Cap) ∷ asks (EncCmd 1) ∷ [] ++ runs
 
 -- the frame has LAST
 abbrev pub EncoderRetired : Type 0

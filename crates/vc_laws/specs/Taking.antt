@@ -73,7 +73,9 @@ bytes_of bs = flat_map (λ b. b.bytes) bs
 -- once, but for those that are on done at its end.
 abbrev pub HandedInOrder : Type 0
 HandedInOrder =
-    (coder : Coder) (events more : List SoloEvent) (c d : Context) → solo_slot coder None events ≡ Some c → solo_slot coder (Some c) more ≡ Some d → DropsNothing coder (Some c) more → handed_out (solo_run coder (Some c) more) ++ bytes_of d.cap.done ≡ bytes_of c.cap.done ++ bytes_of (done_in coder (Some c) more)
+    (coder : Coder) (events more : List SoloEvent) (c d : Context) → solo_slot coder None events ≡ Some c → solo_slot coder (Some c) more ≡ Some d
+    → DropsNothing coder (Some c) more
+    → handed_out (solo_run coder (Some c) more) ++ bytes_of d.cap.done ≡ bytes_of c.cap.done ++ bytes_of (done_in coder (Some c) more)
 
 -- The slot stays open through the run, and none of its events resets the codec state.
 abbrev pub KeepsSegment : Coder → Slot → List SoloEvent → Type 0
@@ -85,7 +87,8 @@ KeepsSegment coder (Some c) (e ∷ es) =
 -- In a run that resets nothing what goes to done is what the segment counts.
 abbrev pub DoneIsRetired : Type 0
 DoneIsRetired =
-    (coder : Coder) (events more : List SoloEvent) (c : Context) → solo_slot coder None events ≡ Some c → KeepsSegment coder (Some c) more → (segment_of coder (events ++ more)).retired ≡ (segment_of coder events).retired ++ done_in coder (Some c) more
+    (coder : Coder) (events more : List SoloEvent) (c : Context) → solo_slot coder None events ≡ Some c → KeepsSegment coder (Some c) more
+    → (segment_of coder (events ++ more)).retired ≡ (segment_of coder events).retired ++ done_in coder (Some c) more
 
 -- Bytes
 
@@ -101,12 +104,14 @@ bytes_of_result x = bytes_of_kind x.fourcc x.what.kind
 -- What goes to done on CAPTURE of a decoder has the bytes of the segment's pictures, in order, and nothing else.
 abbrev pub PicturesAreHandedOut : Type 0
 PicturesAreHandedOut =
-    (events : List SoloEvent) (c : Context) → solo_slot the_coder None events ≡ Some c → c.kind ≡ Dec → let seg = segment_of the_coder events in bytes_of seg.retired ≡ flat_map bytes_of_result seg.results
+    (events : List SoloEvent) (c : Context) → solo_slot the_coder None events ≡ Some c → c.kind ≡ Dec
+    → let seg = segment_of the_coder events in bytes_of seg.retired ≡ flat_map bytes_of_result seg.results
 
 -- What goes to done on CAPTURE of an encoder has the bytes of the segment's frames, in order, and nothing else.
 abbrev pub FramesAreHandedOut : Type 0
 FramesAreHandedOut =
-    (coder : Coder) (events : List SoloEvent) (c : Context) → solo_slot coder None events ≡ Some c → c.kind ≡ Enc → let seg = segment_of coder events in bytes_of seg.retired ≡ flat_map (λ p. p.frame) seg.pictures
+    (coder : Coder) (events : List SoloEvent) (c : Context) → solo_slot coder None events ≡ Some c → c.kind ≡ Enc
+    → let seg = segment_of coder events in bytes_of seg.retired ≡ flat_map (λ p. p.frame) seg.pictures
 
 -- A run of one segment, from no buffer on done to no buffer on done, whose beginning put none there and which drops nothing.
 pub record IsTakenWhole (coder : Coder) (events more : List SoloEvent) (d : Context) : Type 0 where
@@ -127,7 +132,8 @@ handed_in coder events more = handed_out (solo_run coder (solo_slot coder None e
 -- frames for the pictures that were consumed.
 pub record ClientsGetAll (events more : List SoloEvent) (d : Context) : Type 0 where
   pub decoders : d.kind ≡ Dec → IsTakenWhole the_coder events more d → handed_in the_coder events more ≡ flat_map bytes_of_result (segment_of the_coder (events ++ more)).results
-  pub encoders : d.kind ≡ Enc → IsTakenWhole the_coder events more d → handed_in the_coder events more ≡ flat_map encoded_bytes (sequential_frames (segment_of the_coder (events ++ more)) d.formats.out)
+  pub encoders :
+      d.kind ≡ Enc → IsTakenWhole the_coder events more d → handed_in the_coder events more ≡ flat_map encoded_bytes (sequential_frames (segment_of the_coder (events ++ more)) d.formats.out)
 
 abbrev pub AllIsHandedOut : Type 0
 AllIsHandedOut = (events more : List SoloEvent) (d : Context) → ClientsGetAll events more d

@@ -2,7 +2,9 @@
 //! Resolution Change" of the memory-to-memory stateful video decoder interface, and "Drain" of the stateful video encoder
 //! interface, in the Linux userspace API documentation.
 
-ghost use Rattle.vc_laws.specs.Drains.{AbortedByOff, AllWentBack, ChangesStop, DrainsAreWhole, DrainsBeginAtStop, DrainsEncodeAll, DrainsGiveAll, EncodesInOrder, FrameAfterChange, MarksStay, NothingAfterLast, ResultsBeforeChange, SameDrainsSameResults, StopsByChange};
+ghost use Rattle.vc_laws.specs.Drains.{AbortedByOff, AllWentBack, ChangesStop, DrainsAreWhole, DrainsBeginAtStop, DrainsEncodeAll, DrainsGiveAll};
+ghost use Rattle.vc_laws.specs.Drains.{EncodesInOrder, FrameAfterChange, MarksStay, NothingAfterLast, ResultsBeforeChange, SameDrainsSameResults};
+ghost use Rattle.vc_laws.specs.Drains.{StopsByChange};
 ghost use Rattle.vc_laws.specs.FirstFormats.{DecodersHandOutPictures, PicturesAreInFirst};
 ghost use Rattle.vc_laws.specs.Taking.{AllIsHandedOut, DoneIsRetired, FramesAreHandedOut, HandedInOrder, PicturesAreHandedOut, TakenInOrder};
 ghost use Rattle.vc_laws.specs.Following.{EncoderFollows, Follows, RetiredAreFrames, RetiredAreResults, SegmentsBegin};

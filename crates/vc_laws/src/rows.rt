@@ -1,6 +1,8 @@
 //! Worked rows: what the definitions say of the segments of short runs.
 
-ghost use Rattle.vc_laws.specs.SegmentRows.{ChangeRetired, ChangeWaits, ChangedResults, CutBytes, CutResults, CutStamps, EncoderFrames, EncoderRetired, EncoderTakesBack, ListedBytes, ListedResults, ListedRetired, ListedSources, ListedStamps, SoughtBytes, TwoBytes, TwoResults, TwoRetired, TwoRetiredBytes, TwoStamps};
+ghost use Rattle.vc_laws.specs.SegmentRows.{ChangeRetired, ChangeWaits, ChangedResults, CutBytes, CutResults, CutStamps, EncoderFrames, EncoderRetired};
+ghost use Rattle.vc_laws.specs.SegmentRows.{EncoderTakesBack, ListedBytes, ListedResults, ListedRetired, ListedSources, ListedStamps, SoughtBytes, TwoBytes};
+ghost use Rattle.vc_laws.specs.SegmentRows.{TwoResults, TwoRetired, TwoRetiredBytes, TwoStamps};
 
 /// The definitions compute these rows with the codec itself: two frames in one buffer, a frame in 48 pieces, a stream that
 /// changes, a restart of OUTPUT, and an encoder.

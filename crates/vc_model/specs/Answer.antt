@@ -11,10 +11,14 @@ use Rattle.vc_base.specs.declared.Format.{Format}
 use Rattle.vc_base.specs.declared.Errno.{Errno}
 use Rattle.vc_base.specs.declared.Errno.TheVariants.{NoEnt, Again, NoMem, Busy, Inval, NoTty}
 use Rattle.vc_base.specs.declared.Call.{Call}
-use Rattle.vc_base.specs.declared.Call.TheVariants.{Open, Close, EnumFmt, GetFmt, TryFmt, SetFmt, ReqBufs, CreateBufs, QueryBuf, QBuf, DqBuf, StreamOn, StreamOff, Subscribe, Unsubscribe, DqEvent, DecCmd, EncCmd, GetCtrl, SetCtrl, Poll}
+use Rattle.vc_base.specs.declared.Call.TheVariants.{Open, Close, EnumFmt, GetFmt, TryFmt, SetFmt, ReqBufs, CreateBufs, QueryBuf, QBuf, DqBuf, StreamOn}
+use Rattle.vc_base.specs.declared.Call.TheVariants.{StreamOff, Subscribe, Unsubscribe, DqEvent, DecCmd, EncCmd, GetCtrl, SetCtrl, Poll}
 use Rattle.vc_base.specs.declared.Reply.{Reply}
 use Rattle.vc_base.specs.declared.Reply.TheVariants.{Done, Desc, Fmt, Count, Created, Value, Ready, Refused, Blocked}
-use Rattle.vc_base.specs.Buffers.{Buffer, is_empty, buffer_count, refuse_if, most_buffers, reqbufs_refusal, reqbufs_after, create_refusal, create_after, created, querybuf_reply, qbuf_refusal, qbuf_after, dqbuf_refusal, dqbuf_after, taken, long_enough, streamon_refusal, streamon_after, streamoff_after}
+use Rattle.vc_base.specs.Buffers.{Buffer, is_empty, buffer_count, refuse_if, reqbufs_refusal, reqbufs_after, create_refusal, create_after, created}
+use Rattle.vc_base.specs.Buffers.{querybuf_reply, qbuf_refusal, qbuf_after, dqbuf_refusal, dqbuf_after, taken, long_enough, streamon_refusal, streamon_after}
+use Rattle.vc_base.specs.Buffers.{streamoff_after}
+use Rattle.vc_base.specs.Limits.{most_buffers, start_command, stop_command, gop_control, iqp_control, pqp_control, least_capture_control, least_output_control, most_gop, most_quantiser}
 use Rattle.vc_base.specs.Events.{event_refusal, subscribe_after, unsubscribe_after, event_reply, take_event_after}
 use Rattle.vc_model.specs.Formats.{formats_listed, formats_for}
 use Rattle.vc_model.specs.Coder.{reset}
@@ -44,7 +48,7 @@ abbrev pub unless : Context → Option Errno → Answer → Answer
 unless c (Some errno) effect = refused c errno
 unless c None effect = effect
 
--- want of memory (ENOMEM) is an answer after every other test
+-- out of memory (ENOMEM) is an answer after every other test
 abbrev pub if_found : Context → Bool → Answer → Answer
 if_found c true effect = effect
 if_found c false effect = refused c NoMem
@@ -115,7 +119,8 @@ is_no_whole_picture c Cap used = false
 abbrev pub qbuf_answer : Context → Side → ℕ → ℕ → Stamp → List ℕ → Answer
 qbuf_answer c side index used stamp bytes =
     let q = queue_of c side in
-    unless c (qbuf_refusal q index used (sizeimage c side)) (unless c (refuse_if (is_no_whole_picture c side used) Inval None) (answered (with_queue c side (qbuf_after q index used stamp bytes)) Done))
+    unless c (qbuf_refusal q index used (sizeimage c side))
+    (unless c (refuse_if (is_no_whole_picture c side used) Inval None) (answered (with_queue c side (qbuf_after q index used stamp bytes)) Done))
 
 -- whether the user took the LAST buffer
 abbrev pub is_ended : Context → Side → Bool
@@ -239,7 +244,7 @@ start_answer c =
 
 abbrev pub command_answer : Context → ℕ → Answer
 command_answer c cmd =
-    if cmd == 0 then start_answer c else (if cmd == 1 then stop_answer c else refused c Inval)
+    if cmd == start_command then start_answer c else (if cmd == stop_command then stop_answer c else refused c Inval)
 
 -- Controls (VIDIOC_G_CTRL, VIDIOC_S_CTRL; "Encoding Parameter Changes" of the stateful encoder)
 
@@ -247,16 +252,19 @@ command_answer c cmd =
 abbrev pub control_of : Kind → RunRates → ℕ → Option ℕ
 control_of Copy rates id = None
 control_of Enc rates id =
-    if id == 1 then Some rates.gop else (if id == 2 then Some rates.iqp else (if id == 3 then Some rates.pqp else (if id == 5 then Some 1 else None)))
-control_of Dec rates id = if id == 4 then Some 1 else None
+    if id == gop_control then Some rates.gop else
+    (if id == iqp_control then Some rates.iqp else
+    (if id == pqp_control then Some rates.pqp else
+    (if id == least_output_control then Some 1 else None)))
+control_of Dec rates id = if id == least_capture_control then Some 1 else None
 
 -- the rates with a control set, where the kind has it, it is writable and the value is in range
 abbrev pub with_control : Kind → RunRates → ℕ → ℕ → Option RunRates
 with_control Copy rates id value = None
 with_control Enc rates id value =
-    if (id == 1) && (nat_le 1 value && nat_le value 16) then Some (record rates { gop = value }) else
-    (if (id == 2) && (nat_le 1 value && nat_le value 31) then Some (record rates { iqp = value }) else
-    (if (id == 3) && (nat_le 1 value && nat_le value 31) then Some (record rates { pqp = value }) else None))
+    if (id == gop_control) && (nat_le 1 value && nat_le value most_gop) then Some (record rates { gop = value }) else
+    (if (id == iqp_control) && (nat_le 1 value && nat_le value most_quantiser) then Some (record rates { iqp = value }) else
+    (if (id == pqp_control) && (nat_le 1 value && nat_le value most_quantiser) then Some (record rates { pqp = value }) else None))
 with_control Dec rates id value = None
 
 abbrev pub value_answer : Context → Option ℕ → Answer

@@ -4,7 +4,8 @@ use Rattle.std.specs.Prelude.{ℕ, ◌≡◌, ◌<◌, ◌≤◌, ◌+◌, if◌
 use Rattle.vc_base.specs.Buffers.{is_empty}
 use Rattle.vc_model.specs.Coder.{Coder}
 use Rattle.vc_model.specs.Devices.{DeviceState, new_device, device_after}
-use Rattle.vc_model.specs.Script.{ReplyText, Asked, line_events, line_text, lines_printed, printed_by, first_lines, split_lines, Prints, most_slots, AreAsked, IsLineText}
+use Rattle.vc_model.specs.Script.{ReplyText, Asked, line_events, line_text, lines_printed, printed_by, first_lines, split_lines, Prints, AreAsked, IsLineText}
+use Rattle.vc_base.specs.Limits.{most_slots}
 
 -- A report is right where a device of n slots may print it for the script.
 abbrev pub IsRight : ReplyText → Coder → ℕ → List Asked → List ℕ → Type 0

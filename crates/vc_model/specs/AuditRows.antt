@@ -35,7 +35,9 @@ payload_text request bytes = codes "-"
 abbrev pub row_words : Call → Reply → List ℕ → List ℕ
 row_words request (Count count) handed = codes "ok " ++ decimal count
 row_words request (Taken index used flags seq stamp) handed =
-    codes "ok " ++ (decimal index ++ (codes " " ++ (decimal used ++ (codes " " ++ (digits 16 false flags ++ (codes " " ++ (decimal seq ++ (codes " " ++ (decimal stamp.0 ++ (codes " " ++ payload_text request handed))))))))))
+    codes "ok "
+    ++ (decimal index
+    ++ (codes " " ++ (decimal used ++ (codes " " ++ (digits 16 false flags ++ (codes " " ++ (decimal seq ++ (codes " " ++ (decimal stamp.0 ++ (codes " " ++ payload_text request handed))))))))))
 row_words request (Refused errno) handed = errno_name errno
 row_words request Blocked handed = codes "blocked"
 row_words request reply handed = codes "ok"
@@ -47,7 +49,9 @@ row_text slot request reply handed =
 -- the calls of a copying context up to the start of CAPTURE
 abbrev pub copying_lines : ℕ → List ℕ → ℕ → ℕ → List Asked
 copying_lines slot bytes used at =
-    AsksCall slot (Open Copy) [] ∷ AsksCall slot (ReqBufs Out 1) [] ∷ AsksCall slot (ReqBufs Cap 1) [] ∷ AsksCall slot (QBuf Out 0 used (stamp at)) bytes ∷ AsksCall slot (QBuf Cap 0 0 (stamp 0)) [] ∷ AsksCall slot (StreamOn Out) [] ∷ AsksCall slot (StreamOn Cap) [] ∷ []
+    AsksCall slot (Open Copy) [] ∷ AsksCall slot (ReqBufs Out 1) [] ∷ AsksCall slot (ReqBufs Cap 1) []
+    ∷ AsksCall slot (QBuf Out 0 used (stamp at)) bytes ∷ AsksCall slot (QBuf Cap 0 0 (stamp 0)) [] ∷ AsksCall slot (StreamOn Out) []
+    ∷ AsksCall slot (StreamOn Cap) [] ∷ []
 
 abbrev pub one_copy_lines : List Asked
 one_copy_lines =
@@ -101,7 +105,9 @@ OneLineMore =
 -- two contexts, whose claims are told in the other order: the lines of each are right, and the report isn't
 abbrev pub WrongOrder : Type 0
 WrongOrder =
-    first_wrong (copying_lines 0 (0 ∷ 255 ∷ []) 2 7 ++ (copying_lines 1 (161 ∷ []) 1 8 ++ (AsksRun 0 ∷ AsksRun 0 ∷ []))) (copying_report ++ codes "1 open ok\n1 req ok 1\n1 req ok 1\n1 q ok\n1 q ok\n1 on ok\n1 on ok\n1 claim\n1 finish copied\n0 claim\n0 finish copied\n") ≡ Some 15
+    first_wrong (copying_lines 0 (0 ∷ 255 ∷ []) 2 7 ++ (copying_lines 1 (161 ∷ []) 1 8 ++ (AsksRun 0 ∷ AsksRun 0 ∷ [])))
+    (copying_report ++ codes "1 open ok\n1 req ok 1\n1 req ok 1\n1 q ok\n1 q ok\n1 on ok\n1 on ok\n1 claim\n1 finish copied\n0 claim\n0 finish copied\n")
+    ≡ Some 15
 
 -- the input of an audit
 abbrev pub AuditIsCut : Type 0

@@ -11,7 +11,8 @@ use Rattle.vc_model.specs.Context.{Context, Slot, Running, settle}
 use Rattle.vc_model.specs.Answer.{answer}
 use Rattle.vc_model.specs.Runs.{JobData, RunResult, run_result, run_effect, fault_effect, run_word, after_claim}
 use Rattle.vc_model.specs.Solo.{Answered, Claimed, Finished}
-use Rattle.vc_model.specs.Devices.{DeviceState, DeviceReply, Told, NoJob, Empty, DeviceStep, most_workers, new_device, slot_of, job_of, with_slot, counted, ignored, call_answered, device_step, device_after}
+use Rattle.vc_model.specs.Devices.{DeviceState, DeviceReply, Told, NoJob, Empty, DeviceStep, new_device, slot_of, job_of, with_slot, counted, ignored, call_answered, device_step, device_after}
+use Rattle.vc_base.specs.Limits.{most_workers}
 use Rattle.vc_model.specs.Standing.{CoreState, without_job, Stands, job_in, worker_job}
 
 -- n closed slots, and w workers without a job
@@ -116,7 +117,8 @@ NewCoreStands = (coder : Coder) (n w : ℕ) → w ≤ most_workers → Stands co
 
 abbrev pub CallsStand : Type 0
 CallsStand =
-    (coder : Coder) (n w : ℕ) (core : CoreState) (history : List DeviceEvent) (k : ℕ) (request : Call) (bytes : List ℕ) (found : Bool) → Stands coder n w core history → StandsFor coder n w history (call k request bytes found) (core_call core k request bytes found)
+    (coder : Coder) (n w : ℕ) (core : CoreState) (history : List DeviceEvent) (k : ℕ) (request : Call) (bytes : List ℕ) (found : Bool)
+    → Stands coder n w core history → StandsFor coder n w history (call k request bytes found) (core_call core k request bytes found)
 
 -- the data that the claim gives are those of the device
 abbrev pub IsGiven : ℕ → DeviceState → Option JobData → DeviceReply → Type 0
@@ -135,7 +137,9 @@ ClaimsStand =
 -- A finish brings back the data of the job as the history has them.
 abbrev pub FinishesStand : Type 0
 FinishesStand =
-    (coder : Coder) (n w : ℕ) (core : CoreState) (history : List DeviceEvent) (worker : ℕ) (j : JobData) (fault : Bool) → worker_job (device_after coder (new_device n) history) worker ≡ Some j → Stands coder n w core history → StandsFor coder n w history (finish worker fault) (core_finish core worker (brought_back coder j fault))
+    (coder : Coder) (n w : ℕ) (core : CoreState) (history : List DeviceEvent) (worker : ℕ) (j : JobData) (fault : Bool)
+    → worker_job (device_after coder (new_device n) history) worker ≡ Some j → Stands coder n w core history
+    → StandsFor coder n w history (finish worker fault) (core_finish core worker (brought_back coder j fault))
 
 abbrev pub ShutStands : Type 0
 ShutStands =
@@ -144,11 +148,13 @@ ShutStands =
 -- A call that answers Blocked leaves the core as it was.
 abbrev pub BlockedChangesNothing : Type 0
 BlockedChangesNothing =
-    (coder : Coder) (n w : ℕ) (core : CoreState) (history : List DeviceEvent) (k : ℕ) (request : Call) (bytes handed : List ℕ) (found : Bool) → Stands coder n w core history → (core_call core k request bytes found).reply ≡ Told k (Answered Blocked handed) → (core_call core k request bytes found).device ≡ core
+    (coder : Coder) (n w : ℕ) (core : CoreState) (history : List DeviceEvent) (k : ℕ) (request : Call) (bytes handed : List ℕ) (found : Bool)
+    → Stands coder n w core history → (core_call core k request bytes found).reply ≡ Told k (Answered Blocked handed)
+    → (core_call core k request bytes found).device ≡ core
 
 -- Memory
 
--- a reply that is not want of memory
+-- a reply other than out of memory
 abbrev pub unless_memory : Reply → Option Reply
 unless_memory (Refused NoMem) = None
 unless_memory reply = Some reply

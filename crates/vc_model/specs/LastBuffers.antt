@@ -1,7 +1,8 @@
 -- The flag LAST ("Drain" and "Dynamic Resolution Change" of the stateful decoder, "Drain" of the stateful encoder): it is on the
 -- buffer with which a drain or a change of the resolution ends, and on no other.
 use Rattle.std.specs.Prelude.{ℕ, ◌≡◌, ◌+◌, Bool, true, not, ◌&&◌, ◌||◌, ◌==◌, if◌then◌else◌, bit_and, List, [], ◌∷◌}
-use Rattle.vc_base.specs.Buffers.{Buffer, last_flag}
+use Rattle.vc_base.specs.Buffers.{Buffer}
+use Rattle.vc_base.specs.Limits.{last_flag}
 use Rattle.vc_model.specs.Context.{Context}
 use Rattle.vc_model.specs.Sound.{ends_with_last}
 pub use Rattle.vc_model.specs.Phases.{is_last_by_change}

@@ -1,8 +1,9 @@
 -- The messages of the wire: how bytes are cut into messages, and what a message asks for (docs/FORMAT.md, "The wire"). All
 -- numbers are big-endian.
-use Rattle.std.specs.Prelude.{ℕ, zero, suc, ◌≡◌, ◌+◌, ◌-◌, Bool, true, false, not, ◌&&◌, if◌then◌else◌, ◌==◌, nat_lt, nat_le, length, take, drop, Option, Some, None, option_and_then, List, [], ◌∷◌, ◌++◌}
+use Rattle.std.specs.Prelude.{ℕ, zero, suc, ◌≡◌, ◌+◌, ◌-◌, Bool, true, false, not, ◌&&◌, ◌||◌, if◌then◌else◌, ◌==◌, nat_lt, nat_le, length, take, drop, Option}
+use Rattle.std.specs.Prelude.{Some, None, option_and_then, List, [], ◌∷◌, ◌++◌}
 use Rattle.std.specs.Int.{to_be_bytes, from_be_bytes, w32, w64}
-use Rattle.std.specs.List.{list_all, find}
+use Rattle.std.specs.List.{list_all, find, flat_map}
 use Rattle.vc_base.specs.declared.Side.{Side}
 use Rattle.vc_base.specs.declared.Side.TheVariants.{Out, Cap}
 use Rattle.vc_base.specs.declared.Kind.{Kind}
@@ -11,9 +12,11 @@ use Rattle.vc_base.specs.declared.Stamp.{Stamp}
 use Rattle.vc_base.specs.declared.Fourcc.{Fourcc}
 use Rattle.vc_base.specs.declared.Format.{Format}
 use Rattle.vc_base.specs.declared.Call.{Call}
-use Rattle.vc_base.specs.declared.Call.TheVariants.{Open, Close, EnumFmt, GetFmt, TryFmt, SetFmt, ReqBufs, CreateBufs, QueryBuf, QBuf, DqBuf, StreamOn, StreamOff, Subscribe, Unsubscribe, DqEvent, DecCmd, EncCmd, GetCtrl, SetCtrl, Poll}
+use Rattle.vc_base.specs.declared.Call.TheVariants.{Open, Close, EnumFmt, GetFmt, TryFmt, SetFmt, ReqBufs, CreateBufs, QueryBuf, QBuf, DqBuf, StreamOn}
+use Rattle.vc_base.specs.declared.Call.TheVariants.{StreamOff, Subscribe, Unsubscribe, DqEvent, DecCmd, EncCmd, GetCtrl, SetCtrl, Poll}
 use Rattle.vc_base.specs.Buffers.{zero_stamp}
-use Rattle.vc_model.specs.Script.{Asked, AsksCall, AsksClaim, AsksFinish, script_workers}
+use Rattle.vc_model.specs.Script.{Asked, AsksCall, AsksClaim, AsksFinish}
+use Rattle.vc_base.specs.Limits.{script_workers, longest_message}
 
 -- Numbers
 
@@ -32,12 +35,8 @@ wide_at bytes at = from_be_bytes w64 (take 8 (drop at bytes))
 
 -- Framing
 
--- the longest body: one byte, an index, a stamp and a slot before the longest payload
-abbrev pub longest_body : ℕ
-longest_body = 17694781
-
 abbrev pub is_length : ℕ → Bool
-is_length n = nat_le 1 n && nat_le n longest_body
+is_length n = nat_le 1 n && nat_le n longest_message
 
 -- the four bytes of a length are there and it isn't in range
 abbrev pub has_bad_length : List ℕ → Bool
@@ -77,7 +76,8 @@ messages bytes = messages_within (length bytes) bytes
 -- bytes are cut into pieces doesn't matter.
 abbrev pub MessagesContinue : Type 0
 MessagesContinue =
-    (bytes further : List ℕ) → let first = messages bytes in let later = messages (first.rest ++ further) in messages (bytes ++ further) ≡ record { bodies = first.bodies ++ later.bodies; rest = later.rest }
+    (bytes further : List ℕ)
+    → let first = messages bytes in let later = messages (first.rest ++ further) in messages (bytes ++ further) ≡ record { bodies = first.bodies ++ later.bodies; rest = later.rest }
 
 -- What a piece of the bytes brings: more is needed, a message ended, or its length isn't in range.
 pub data Framing : Type 0 where
@@ -98,6 +98,50 @@ fed kept piece =
     if has_bad_length all then record { taken = 4 - length kept; kept = take 4 all; told = bad_length } else
     (if has_message all then record { taken = (4 + number_at all 0) - length kept; kept = []; told = whole (first_body all) } else
     record { taken = length piece; kept = all; told = more })
+
+-- After a length out of range the same is told of every further piece, and no byte of it is taken.
+abbrev pub BadLengthStays : Type 0
+BadLengthStays =
+    (kept piece further : List ℕ) → let f = fed kept piece in f.told ≡ bad_length → fed f.kept further ≡ record { taken = 0; kept = f.kept; told = bad_length }
+
+-- What pieces come to: the bodies that were told in order, what is kept, and whether a length was told to be out of range.
+pub record Feeding : Type 0 where
+  pub bodies : List (List ℕ)
+  pub kept : List ℕ
+  pub is_bad : Bool
+
+-- what was told of a piece, before what the rest of the piece comes to
+abbrev pub told_before : Framing → List ℕ → Feeding → Feeding
+told_before more kept later = record { bodies = []; kept = kept; is_bad = false }
+told_before (whole body) kept later = record later { bodies = body ∷ later.bodies }
+told_before bad_length kept later = record { bodies = []; kept = kept; is_bad = true }
+
+-- a piece is fed again and again, each time what is left of it, at most so many times
+abbrev pub fed_within : ℕ → List ℕ → List ℕ → Feeding
+fed_within zero kept piece = record { bodies = []; kept = kept; is_bad = false }
+fed_within (suc most) kept piece =
+    let f = fed kept piece in told_before f.told f.kept (fed_within most f.kept (drop f.taken piece))
+
+-- each message takes a byte of the piece at least
+abbrev pub fed_whole : List ℕ → List ℕ → Feeding
+fed_whole kept piece = fed_within (1 + length piece) kept piece
+
+abbrev pub fed_before : Feeding → Feeding → Feeding
+fed_before f later =
+    record { bodies = f.bodies ++ later.bodies; kept = later.kept; is_bad = f.is_bad || later.is_bad }
+
+-- one piece after another
+abbrev pub fed_pieces : List ℕ → List (List ℕ) → Feeding
+fed_pieces kept [] = record { bodies = []; kept = kept; is_bad = false }
+fed_pieces kept (piece ∷ pieces) = let f = fed_whole kept piece in fed_before f (fed_pieces f.kept pieces)
+
+-- Pieces of bytes tell what the bytes have, however they are cut: the bodies of the messages in order, and a length out of
+-- range exactly where one stands behind them. The rest is kept, and of one with such a length these four bytes.
+abbrev pub PiecesTellMessages : Type 0
+PiecesTellMessages =
+    (pieces : List (List ℕ))
+    → let m = messages (flat_map (λ piece. piece) pieces) in
+    let bad = has_bad_length m.rest in fed_pieces [] pieces ≡ record { bodies = m.bodies; kept = if bad then take 4 m.rest else m.rest; is_bad = bad }
 
 -- Operations
 

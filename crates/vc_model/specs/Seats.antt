@@ -191,7 +191,8 @@ pub record IsOneHistory (coder : Coder) (n w : ℕ) (core : CoreState) (history 
 -- a step at the end of a history is one more step
 abbrev pub HistoriesGrow : Type 0
 HistoriesGrow =
-    (coder : Coder) (n : ℕ) (history : List DeviceEvent) (e : DeviceEvent) → IsHistory coder n history → let d = device_after coder (new_device n) history in (device_step coder d e).device.steps ≡ d.steps + 1 → IsHistory coder n (history ++ e ∷ [])
+    (coder : Coder) (n : ℕ) (history : List DeviceEvent) (e : DeviceEvent) → IsHistory coder n history
+    → let d = device_after coder (new_device n) history in (device_step coder d e).device.steps ≡ d.steps + 1 → IsHistory coder n (history ++ e ∷ [])
 
 -- the device before the last event of a history, and what was told at it
 pub record LastIsKnown (coder : Coder) (n : ℕ) (history : List DeviceEvent) (e : DeviceEvent) : Type 0 where
@@ -214,7 +215,9 @@ ShutsAreSeen =
 -- What a handle is answered is what its slot answers by itself, on its own calls, claims and finishes alone.
 abbrev pub AnswersAreSolo : Type 0
 AnswersAreSolo =
-    (coder : Coder) (n k : ℕ) (history : List DeviceEvent) (request : Call) (bytes : List ℕ) (found : Bool) (reply : Reply) (handed : List ℕ) → (device_step coder (device_after coder (new_device n) history) (call k request bytes found)).reply ≡ Told k (Answered reply handed) → (solo_step coder (solo_slot coder None (projection coder (new_device n) history k)) (Called request bytes found)).told ≡ Answered reply handed
+    (coder : Coder) (n k : ℕ) (history : List DeviceEvent) (request : Call) (bytes : List ℕ) (found : Bool) (reply : Reply) (handed : List ℕ)
+    → (device_step coder (device_after coder (new_device n) history) (call k request bytes found)).reply ≡ Told k (Answered reply handed)
+    → (solo_step coder (solo_slot coder None (projection coder (new_device n) history k)) (Called request bytes found)).told ≡ Answered reply handed
 
 -- Each worker that has a job has it of a slot in which one runs, and no two workers have that of one slot.
 pub record WorkersAreApart (d : DeviceState) : Type 0 where

@@ -5,7 +5,8 @@ use Rattle.vc_base.specs.declared.Side.TheVariants.{Out, Cap}
 use Rattle.vc_base.specs.declared.Kind.{Kind}
 use Rattle.vc_base.specs.declared.Kind.TheVariants.{Copy, Enc, Dec}
 use Rattle.vc_base.specs.declared.Format.{Format}
-use Rattle.vc_base.specs.Buffers.{Buffer, QueueState, is_empty, buffers, buffer_count, most_buffers, last_flag}
+use Rattle.vc_base.specs.Buffers.{Buffer, QueueState, is_empty, buffers, buffer_count}
+use Rattle.vc_base.specs.Limits.{most_buffers, last_flag}
 use Rattle.vc_defs.specs.declared.Geometry.{Geometry}
 use Rattle.vc_defs.specs.Raw.{grey, yu12, nv12, yuyv, same_fourcc, layout_of}
 use Rattle.vc_model.specs.Formats.{FormatPair, raw_format}

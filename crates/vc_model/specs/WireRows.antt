@@ -1,8 +1,8 @@
 -- Worked messages: what a device of 16 slots replies to short inputs.
-use Rattle.std.specs.Prelude.{ℕ, ◌≡◌, List, [], ◌∷◌, ◌++◌}
+use Rattle.std.specs.Prelude.{ℕ, ◌≡◌, true, false, map, List, [], ◌∷◌, ◌++◌}
 use Rattle.vc_model.specs.CoderRows.{listed_coder}
-use Rattle.vc_model.specs.Messages.{messages, fed, more, whole, bad_length}
-use Rattle.vc_model.specs.Wire.{Replies}
+use Rattle.vc_model.specs.Messages.{messages, fed, more, whole, bad_length, Feeding, fed_pieces}
+use Rattle.vc_model.specs.Wire.{Replies, replies_of_slot}
 
 abbrev pub RepliesTo : List ℕ → List ℕ → List ℕ → Type 0
 RepliesTo input output rest = Replies (listed_coder [] []) 16 input output × ((messages input).rest ≡ rest)
@@ -66,7 +66,12 @@ taken_reply length =
 
 abbrev pub copy_replies : List ℕ
 copy_replies =
-    done_reply ++ (count_reply ++ (count_reply ++ (done_reply ++ (done_reply ++ (done_reply ++ (done_reply ++ ((0 ∷ 0 ∷ 0 ∷ 5 ∷ 0x50 ∷ 0 ∷ 0 ∷ 0 ∷ 0 ∷ []) ++ ((0 ∷ 0 ∷ 0 ∷ 6 ∷ 0x53 ∷ 0 ∷ 0 ∷ 0 ∷ 0 ∷ 0 ∷ []) ++ (taken_reply 31 ++ ((0 ∷ 255 ∷ []) ++ taken_reply 29))))))))))
+    done_reply
+    ++ (count_reply
+    ++ (count_reply
+    ++ (done_reply
+    ++ (done_reply
+    ++ (done_reply ++ (done_reply ++ ((0 ∷ 0 ∷ 0 ∷ 5 ∷ 0x50 ∷ 0 ∷ 0 ∷ 0 ∷ 0 ∷ []) ++ ((0 ∷ 0 ∷ 0 ∷ 6 ∷ 0x53 ∷ 0 ∷ 0 ∷ 0 ∷ 0 ∷ 0 ∷ []) ++ (taken_reply 31 ++ ((0 ∷ 255 ∷ []) ++ taken_reply 29))))))))))
 
 abbrev pub OneCopyReplied : Type 0
 OneCopyReplied = RepliesTo copy_messages copy_replies []
@@ -78,3 +83,28 @@ FedInPieces =
     × (fed (0 ∷ 0 ∷ 0 ∷ []) (2 ∷ 7 ∷ 8 ∷ 9 ∷ []) ≡ record { taken = 3; kept = []; told = whole (7 ∷ 8 ∷ []) })
     × (fed (0 ∷ 0 ∷ 0 ∷ []) (0 ∷ 7 ∷ []) ≡ record { taken = 1; kept = 0 ∷ 0 ∷ 0 ∷ 0 ∷ []; told = bad_length })
     × (fed (0 ∷ 0 ∷ 0 ∷ 0 ∷ []) (7 ∷ []) ≡ record { taken = 0; kept = 0 ∷ 0 ∷ 0 ∷ 0 ∷ []; told = bad_length })
+
+-- two slots, a claim that finds nothing and a body out of the table: each slot has its own reply, and the others are of none
+abbrev pub two_slots_asked : List ℕ
+two_slots_asked =
+    open_message ++ ((0 ∷ 0 ∷ 0 ∷ 5 ∷ 0x20 ∷ 0 ∷ 0 ∷ 0 ∷ 0 ∷ []) ++ (poll_message ++ (0 ∷ 0 ∷ 0 ∷ 1 ∷ 255 ∷ [])))
+
+abbrev pub two_slots_replied : List ℕ
+two_slots_replied = done_reply ++ ((0 ∷ 0 ∷ 0 ∷ 1 ∷ 0x51 ∷ []) ++ (poll_reply ++ (0 ∷ 0 ∷ 0 ∷ 1 ∷ 0x7f ∷ [])))
+
+abbrev pub SlotsOfReplies : Type 0
+SlotsOfReplies =
+    RepliesTo two_slots_asked two_slots_replied []
+    × (replies_of_slot 0 two_slots_asked two_slots_replied ≡ done_reply)
+    × (replies_of_slot 1 two_slots_asked two_slots_replied ≡ poll_reply)
+    × (replies_of_slot 0 copy_messages copy_replies ≡ copy_replies)
+    × (replies_of_slot 1 copy_messages copy_replies ≡ [])
+
+-- a message and a length out of range, in one piece and in pieces of one byte
+abbrev pub FedByteByByte : Type 0
+FedByteByByte =
+    let bytes = poll_message ++ (0 ∷ 0 ∷ 0 ∷ 0 ∷ 7 ∷ []) in
+    let told : Feeding = record { bodies = (0x17 ∷ 0 ∷ 0 ∷ 0 ∷ 1 ∷ []) ∷ []; kept = 0 ∷ 0 ∷ 0 ∷ 0 ∷ []; is_bad = true } in
+    (fed_pieces [] (bytes ∷ []) ≡ told)
+    × (fed_pieces [] (map (λ b. b ∷ []) bytes) ≡ told)
+    × (fed_pieces [] (poll_message ∷ (0 ∷ []) ∷ []) ≡ record { bodies = (0x17 ∷ 0 ∷ 0 ∷ 0 ∷ 1 ∷ []) ∷ []; kept = 0 ∷ []; is_bad = false })

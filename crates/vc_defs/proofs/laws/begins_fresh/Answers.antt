@@ -1,4 +1,4 @@
-use Rattle.vc_defs.proofs.Waiting.{begins_fresh}
+use Rattle.vc_defs.proofs.StateBetweenRuns.{begins_fresh}
 use Rattle.vc_defs.proofs.laws.begins_fresh.Goals as goal
 
 pub returns : goal.returns

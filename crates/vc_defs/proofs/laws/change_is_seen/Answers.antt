@@ -1,4 +1,4 @@
-use Rattle.vc_defs.proofs.Waiting.{change_is_seen}
+use Rattle.vc_defs.proofs.StateBetweenRuns.{change_is_seen}
 use Rattle.vc_defs.proofs.laws.change_is_seen.Goals as goal
 
 pub returns : goal.returns

@@ -1,4 +1,4 @@
-use Rattle.vc_defs.proofs.Bounds.{coded_blocks_fit}
+use Rattle.vc_defs.proofs.CoefficientsFit.{coded_blocks_fit}
 use Rattle.vc_defs.proofs.laws.coded_blocks_fit.Goals as goal
 
 pub returns : goal.returns

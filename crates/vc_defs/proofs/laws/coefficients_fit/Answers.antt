@@ -1,4 +1,4 @@
-use Rattle.vc_defs.proofs.Bounds.{coefficients_fit}
+use Rattle.vc_defs.proofs.CoefficientsFit.{coefficients_fit}
 use Rattle.vc_defs.proofs.laws.coefficients_fit.Goals as goal
 
 pub returns : goal.returns

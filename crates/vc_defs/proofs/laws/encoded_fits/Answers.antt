@@ -1,4 +1,4 @@
-use Rattle.vc_defs.proofs.Encoding.{encoded_fits}
+use Rattle.vc_defs.proofs.EncodedFits.{encoded_fits}
 use Rattle.vc_defs.proofs.laws.encoded_fits.Goals as goal
 
 pub returns : goal.returns

@@ -1,4 +1,4 @@
-use Rattle.vc_defs.proofs.Encoding.{encodes_planes}
+use Rattle.vc_defs.proofs.EncodedFits.{encodes_planes}
 use Rattle.vc_defs.proofs.laws.encodes_planes.Goals as goal
 
 pub returns : goal.returns

@@ -1,4 +1,4 @@
-use Rattle.vc_defs.proofs.Feeding.{feeding}
+use Rattle.vc_defs.proofs.FedInPieces.{feeding}
 use Rattle.vc_defs.proofs.laws.feeding.Goals as goal
 
 pub returns : goal.returns

@@ -1,4 +1,4 @@
-use Rattle.vc_defs.proofs.Ordering.{finds_stay}
+use Rattle.vc_defs.proofs.FindsInOrder.{finds_stay}
 use Rattle.vc_defs.proofs.laws.finds_stay.Goals as goal
 
 pub returns : goal.returns

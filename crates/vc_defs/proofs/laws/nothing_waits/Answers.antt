@@ -1,4 +1,4 @@
-use Rattle.vc_defs.proofs.Waiting.{nothing_waits}
+use Rattle.vc_defs.proofs.StateBetweenRuns.{nothing_waits}
 use Rattle.vc_defs.proofs.laws.nothing_waits.Goals as goal
 
 pub returns : goal.returns

@@ -1,4 +1,4 @@
-use Rattle.vc_defs.proofs.ParsingBodies.{plane_of_read, plane_is_read}
+use Rattle.vc_defs.proofs.BodiesAreRead.{plane_of_read, plane_is_read}
 use Rattle.vc_defs.proofs.laws.planes_are_read.Goals as goal
 
 pub returns : goal.returns

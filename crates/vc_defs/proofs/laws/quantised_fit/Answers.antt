@@ -1,4 +1,4 @@
-use Rattle.vc_defs.proofs.Bounds.{quantised_fit}
+use Rattle.vc_defs.proofs.CoefficientsFit.{quantised_fit}
 use Rattle.vc_defs.proofs.laws.quantised_fit.Goals as goal
 
 pub returns : goal.returns

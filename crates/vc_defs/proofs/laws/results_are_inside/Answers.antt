@@ -1,4 +1,4 @@
-use Rattle.vc_defs.proofs.ResultOrder.{results_are_inside}
+use Rattle.vc_defs.proofs.ResultsInOrder.{results_are_inside}
 use Rattle.vc_defs.proofs.laws.results_are_inside.Goals as goal
 
 pub returns : goal.returns

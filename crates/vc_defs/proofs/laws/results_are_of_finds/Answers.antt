@@ -1,4 +1,4 @@
-use Rattle.vc_defs.proofs.ByFinds.{results_are_of_finds}
+use Rattle.vc_defs.proofs.ResultsAreOfFinds.{results_are_of_finds}
 use Rattle.vc_defs.proofs.laws.results_are_of_finds.Goals as goal
 
 pub returns : goal.returns

@@ -1,4 +1,4 @@
-use Rattle.vc_defs.proofs.ResultOrder.{results_are_ordered}
+use Rattle.vc_defs.proofs.ResultsInOrder.{results_are_ordered}
 use Rattle.vc_defs.proofs.laws.results_are_ordered.Goals as goal
 
 pub returns : goal.returns

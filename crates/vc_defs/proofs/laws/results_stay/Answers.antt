@@ -1,4 +1,4 @@
-use Rattle.vc_defs.proofs.ResultOrder.{results_stay}
+use Rattle.vc_defs.proofs.ResultsInOrder.{results_stay}
 use Rattle.vc_defs.proofs.laws.results_stay.Goals as goal
 
 pub returns : goal.returns

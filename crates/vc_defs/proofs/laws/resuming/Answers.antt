@@ -1,4 +1,4 @@
-use Rattle.vc_defs.proofs.Resuming.{resuming}
+use Rattle.vc_defs.proofs.RunsResume.{resuming}
 use Rattle.vc_defs.proofs.laws.resuming.Goals as goal
 
 pub returns : goal.returns

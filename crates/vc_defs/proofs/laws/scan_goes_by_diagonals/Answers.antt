@@ -1,4 +1,4 @@
-use Rattle.vc_defs.proofs.Constants.{scan_goes_by_diagonals}
+use Rattle.vc_defs.proofs.WalshAndScan.{scan_goes_by_diagonals}
 use Rattle.vc_defs.proofs.laws.scan_goes_by_diagonals.Goals as goal
 
 pub returns : goal.returns

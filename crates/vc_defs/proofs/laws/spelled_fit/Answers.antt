@@ -1,4 +1,4 @@
-use Rattle.vc_defs.proofs.Spelling.{spelled_fit}
+use Rattle.vc_defs.proofs.SpellingsArePrefixFree.{spelled_fit}
 use Rattle.vc_defs.proofs.laws.spelled_fit.Goals as goal
 
 pub returns : goal.returns

@@ -14,7 +14,9 @@ use Rattle.vc_defs.specs.Outputs.{decode_output, chained, chained_frames}
 use Rattle.vc_defs.proofs.rows.encoded_again.Goals as goal
 
 pub returns : goal.returns
-unfolding chained chained_frames encoded decode_output raw_of padded_plane unpadded header_bytes coded_blocks block_of coded_as transformed coefficient walsh quantised dequantised shift_at canon_plane canon in_scan_order scan_place samples_of decoded_blocks decoded_plane plane_of results given_in places look header_from is_legal body_planes from_scan_order scan_number
+unfolding chained chained_frames encoded decode_output raw_of padded_plane unpadded header_bytes coded_blocks block_of coded_as transformed
+    coefficient walsh quantised dequantised shift_at canon_plane canon in_scan_order scan_place samples_of decoded_blocks decoded_plane plane_of
+    results given_in places look header_from is_legal body_planes from_scan_order scan_number
 returns c =
     record {
       two_again = refl;

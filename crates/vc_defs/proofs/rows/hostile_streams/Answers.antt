@@ -13,7 +13,8 @@ use Rattle.vc_defs.specs.Outputs.{decode_output, is_damaged_input}
 use Rattle.vc_defs.proofs.rows.hostile_streams.Goals as goal
 
 pub returns : goal.returns
-unfolding decode_output is_damaged_input raw_of results given_in places look header_from header_bytes is_legal body_planes from_scan_order scan_number dequantised transformed coefficient walsh shift_at samples_of block_of decoded_blocks decoded_plane plane_of padded_plane unpadded
+unfolding decode_output is_damaged_input raw_of results given_in places look header_from header_bytes is_legal body_planes from_scan_order scan_number
+    dequantised transformed coefficient walsh shift_at samples_of block_of decoded_blocks decoded_plane plane_of padded_plane unpadded
 returns c =
     record {
       too_short = (refl, refl);

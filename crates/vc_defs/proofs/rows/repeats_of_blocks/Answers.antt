@@ -1,4 +1,4 @@
-use Rattle.vc_defs.proofs.Repeats.{most_repeats, one_block_more}
+use Rattle.vc_defs.proofs.RepeatedBlocks.{most_repeats, one_block_more}
 use Rattle.vc_defs.proofs.rows.repeats_of_blocks.Goals as goal
 
 pub returns : goal.returns

@@ -1,4 +1,4 @@
-use Rattle.vc_laws.proofs.Marks.{aborted_by_off}
+use Rattle.vc_laws.proofs.MarksInAStep.{aborted_by_off}
 use Rattle.vc_laws.proofs.laws.aborted_by_off.Goals as goal
 
 pub returns : goal.returns

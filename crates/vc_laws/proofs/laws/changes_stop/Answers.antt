@@ -1,4 +1,4 @@
-use Rattle.vc_laws.proofs.DoneNow.{changes_stop}
+use Rattle.vc_laws.proofs.DoneInAStep.{changes_stop}
 use Rattle.vc_laws.proofs.laws.changes_stop.Goals as goal
 
 pub returns : goal.returns

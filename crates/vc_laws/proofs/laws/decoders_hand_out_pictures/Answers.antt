@@ -1,4 +1,4 @@
-use Rattle.vc_laws.proofs.Clients.{decoders_hand_out_pictures}
+use Rattle.vc_laws.proofs.AllIsHandedOut.{decoders_hand_out_pictures}
 use Rattle.vc_laws.proofs.laws.decoders_hand_out_pictures.Goals as goal
 
 pub returns : goal.returns

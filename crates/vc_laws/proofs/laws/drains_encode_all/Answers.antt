@@ -1,4 +1,4 @@
-use Rattle.vc_laws.proofs.Sourcing.{encodes_in_order, drains_encode_all}
+use Rattle.vc_laws.proofs.PicturesAreSources.{encodes_in_order, drains_encode_all}
 use Rattle.vc_laws.proofs.laws.drains_encode_all.Goals as goal
 
 pub returns-clause-order : goal.returns-clause-order

@@ -1,4 +1,4 @@
-use Rattle.vc_laws.proofs.Outcomes.{drains_give_all}
+use Rattle.vc_laws.proofs.DecoderFollows.{drains_give_all}
 use Rattle.vc_laws.proofs.laws.drains_give_all.Goals as goal
 
 pub returns : goal.returns

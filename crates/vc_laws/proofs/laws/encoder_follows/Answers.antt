@@ -1,4 +1,4 @@
-use Rattle.vc_laws.proofs.Encoding.{encoder_follows}
+use Rattle.vc_laws.proofs.EncoderFollows.{encoder_follows}
 use Rattle.vc_laws.proofs.laws.encoder_follows.Goals as goal
 
 pub returns : goal.returns

@@ -1,4 +1,4 @@
-use Rattle.vc_laws.proofs.Outcomes.{frame_after_change}
+use Rattle.vc_laws.proofs.DecoderFollows.{frame_after_change}
 use Rattle.vc_laws.proofs.laws.frame_after_change.Goals as goal
 
 pub returns : goal.returns

@@ -1,4 +1,4 @@
-use Rattle.vc_laws.proofs.Marks.{marks_stay}
+use Rattle.vc_laws.proofs.MarksInAStep.{marks_stay}
 use Rattle.vc_laws.proofs.laws.marks_stay.Goals as goal
 
 pub returns : goal.returns

@@ -1,4 +1,4 @@
-use Rattle.vc_laws.proofs.DoneNow.{nothing_after_last}
+use Rattle.vc_laws.proofs.DoneInAStep.{nothing_after_last}
 use Rattle.vc_laws.proofs.laws.nothing_after_last.Goals as goal
 
 pub returns : goal.returns

@@ -1,4 +1,4 @@
-use Rattle.vc_laws.proofs.Handing.{pictures_are_handed_out, frames_are_handed_out}
+use Rattle.vc_laws.proofs.DoneBuffersHoldPictures.{pictures_are_handed_out, frames_are_handed_out}
 use Rattle.vc_laws.proofs.laws.pictures_are_handed_out.Goals as goal
 
 pub returns-clause-decoders : goal.returns-clause-decoders

@@ -1,4 +1,4 @@
-use Rattle.vc_laws.proofs.FirstFormats.{pictures_are_in_first}
+use Rattle.vc_laws.proofs.PicturesAreInFirst.{pictures_are_in_first}
 use Rattle.vc_laws.proofs.laws.pictures_are_in_first.Goals as goal
 
 pub returns : goal.returns

@@ -1,4 +1,4 @@
-use Rattle.vc_laws.proofs.Halting.{results_before_change}
+use Rattle.vc_laws.proofs.ResultsBeforeChange.{results_before_change}
 use Rattle.vc_laws.proofs.laws.results_before_change.Goals as goal
 
 pub returns : goal.returns

@@ -1,4 +1,4 @@
-use Rattle.vc_laws.proofs.Outcomes.{retired_are_results}
+use Rattle.vc_laws.proofs.DecoderFollows.{retired_are_results}
 use Rattle.vc_laws.proofs.laws.retired_are_results.Goals as goal
 
 pub returns : goal.returns

@@ -1,4 +1,4 @@
-use Rattle.vc_laws.proofs.Outcomes.{same_drains}
+use Rattle.vc_laws.proofs.DecoderFollows.{same_drains}
 use Rattle.vc_laws.proofs.laws.same_drains.Goals as goal
 
 pub returns : goal.returns

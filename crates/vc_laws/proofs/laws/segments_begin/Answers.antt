@@ -1,4 +1,4 @@
-use Rattle.vc_laws.proofs.Outcomes.{segments_begin}
+use Rattle.vc_laws.proofs.DecoderFollows.{segments_begin}
 use Rattle.vc_laws.proofs.laws.segments_begin.Goals as goal
 
 pub returns : goal.returns

@@ -1,4 +1,4 @@
-use Rattle.vc_laws.proofs.DoneNow.{stops_by_a_change}
+use Rattle.vc_laws.proofs.DoneInAStep.{stops_by_a_change}
 use Rattle.vc_laws.proofs.laws.stops_by_change.Goals as goal
 
 pub returns : goal.returns

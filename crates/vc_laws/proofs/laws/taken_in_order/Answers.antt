@@ -1,4 +1,4 @@
-use Rattle.vc_laws.proofs.Taking.{taken_in_order, handed_in_order, done_is_retired}
+use Rattle.vc_laws.proofs.TakenInOrder.{taken_in_order, handed_in_order, done_is_retired}
 use Rattle.vc_laws.proofs.laws.taken_in_order.Goals as goal
 
 pub returns-clause-steps : goal.returns-clause-steps

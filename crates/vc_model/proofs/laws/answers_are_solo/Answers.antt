@@ -1,4 +1,4 @@
-use Rattle.vc_model.proofs.Seating.{answers_are_solo}
+use Rattle.vc_model.proofs.HistoriesGrow.{answers_are_solo}
 use Rattle.vc_model.proofs.laws.answers_are_solo.Goals as goal
 
 pub returns : goal.returns

@@ -1,4 +1,4 @@
-use Rattle.vc_model.proofs.Hiding.{answers_without_job, claimable_without_job}
+use Rattle.vc_model.proofs.CallsLeaveTheJob.{answers_without_job, claimable_without_job}
 use Rattle.vc_model.proofs.laws.calls_leave_the_job.Goals as goal
 
 pub returns-clause-answers : goal.returns-clause-answers

@@ -1,4 +1,4 @@
-use Rattle.vc_model.proofs.CoreSound.{cores_are_sound}
+use Rattle.vc_model.proofs.CoresAreSound.{cores_are_sound}
 use Rattle.vc_model.proofs.laws.cores_are_sound.Goals as goal
 
 pub returns : goal.returns

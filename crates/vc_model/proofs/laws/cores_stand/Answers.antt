@@ -1,5 +1,5 @@
-use Rattle.vc_model.proofs.Blocking.{blocked_changes_nothing}
-use Rattle.vc_model.proofs.Standing.{new_core_stands, calls_stand, claims_stand, finishes_stand, shut_stands}
+use Rattle.vc_model.proofs.BlockedChangesNothing.{blocked_changes_nothing}
+use Rattle.vc_model.proofs.CoresStandForDevices.{new_core_stands, calls_stand, claims_stand, finishes_stand, shut_stands}
 use Rattle.vc_model.proofs.laws.cores_stand.Goals as goal
 
 pub returns-clause-new_core : goal.returns-clause-new_core

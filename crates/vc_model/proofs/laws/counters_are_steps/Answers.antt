@@ -1,4 +1,4 @@
-use Rattle.vc_model.proofs.Counting.{counters_are_steps}
+use Rattle.vc_model.proofs.CountersAreSteps.{counters_are_steps}
 use Rattle.vc_model.proofs.laws.counters_are_steps.Goals as goal
 
 pub returns : goal.returns

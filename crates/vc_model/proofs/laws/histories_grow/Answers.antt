@@ -1,4 +1,4 @@
-use Rattle.vc_model.proofs.Seating.{histories_grow, last_events, last_positions, shuts_are_seen}
+use Rattle.vc_model.proofs.HistoriesGrow.{histories_grow, last_events, last_positions, shuts_are_seen}
 use Rattle.vc_model.proofs.laws.histories_grow.Goals as goal
 
 pub returns-clause-steps : goal.returns-clause-steps

@@ -1,4 +1,4 @@
-use Rattle.vc_model.proofs.Seating.{jobs_are_held}
+use Rattle.vc_model.proofs.HistoriesGrow.{jobs_are_held}
 use Rattle.vc_model.proofs.laws.jobs_are_held.Goals as goal
 
 pub returns : goal.returns

@@ -1,4 +1,4 @@
-use Rattle.vc_model.proofs.Lasts.{last_is_told}
+use Rattle.vc_model.proofs.LastIsTold.{last_is_told}
 use Rattle.vc_model.proofs.laws.last_is_told.Goals as goal
 
 pub returns : goal.returns

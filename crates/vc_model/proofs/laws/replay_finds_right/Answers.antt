@@ -1,4 +1,4 @@
-use Rattle.vc_model.proofs.LineByLine.{replay_finds_right}
+use Rattle.vc_model.proofs.LinesArePrinted.{replay_finds_right}
 use Rattle.vc_model.proofs.laws.replay_finds_right.Goals as goal
 
 pub returns : goal.returns

@@ -1,6 +1,6 @@
-use Rattle.vc_model.proofs.LineByLine.{lines_are_printed}
-use Rattle.vc_model.proofs.Honest.{scripts_are_honest}
-use Rattle.vc_model.proofs.Printing.{slots_print_their_own, same_events_same_lines, finishes_are_printed}
+use Rattle.vc_model.proofs.LinesArePrinted.{lines_are_printed}
+use Rattle.vc_model.proofs.ScriptsAreHonest.{scripts_are_honest}
+use Rattle.vc_model.proofs.EachSlotPrintsItsOwn.{slots_print_their_own, same_events_same_lines, finishes_are_printed}
 use Rattle.vc_model.proofs.laws.scripts_print.Goals as goal
 
 pub returns-clause-own : goal.returns-clause-own

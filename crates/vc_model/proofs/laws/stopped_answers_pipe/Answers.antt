@@ -1,4 +1,4 @@
-use Rattle.vc_model.proofs.Ending.{stopped_answers_pipe}
+use Rattle.vc_model.proofs.EventsKeepSound.{stopped_answers_pipe}
 use Rattle.vc_model.proofs.laws.stopped_answers_pipe.Goals as goal
 
 pub returns : goal.returns
