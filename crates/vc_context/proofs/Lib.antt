@@ -1,2 +1,2 @@
-pub mod Going
-pub mod Running
+pub mod QueuesCountUp
+pub mod RunsAreResults

@@ -8,14 +8,9 @@ ghost use Rattle.vc_queue.specs.Growing.{cannot_grow};
 ghost use Rattle.vc_context.specs.Contexts.{has_work};
 
 use crate::replies::nothing_such;
+use vc_base::limits::{LONGEST_BUFFER, MOST_BUFFERS};
 use vc_base::{Errno, Reply};
 use vc_queue::queue::Queue;
-
-/// The length of the longest buffer.
-const LONGEST_BUFFER: u32 = 17694764;
-
-/// The most buffers of a queue.
-const MOST_BUFFERS: u32 = 32;
 
 /// What ReqBufs answers before memory is sought.
 pub fn reqbufs_refusal(queue: &Queue) -> Option<Reply>

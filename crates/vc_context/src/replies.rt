@@ -2,10 +2,17 @@
 
 ghost use Rattle.std.specs.Prelude.{◌≡◌, ℕ};
 ghost use Rattle.vc_base.specs.declared.Errno.TheVariants.{Inval, NoMem, NoTty};
-ghost use Rattle.vc_base.specs.declared.Reply.TheVariants.{Done, Count, Created, Refused};
+ghost use Rattle.vc_base.specs.declared.Reply.TheVariants.{Done, Count, Created, Value, Refused};
 ghost use Rattle.vc_context.specs.Contexts.{told_of, refused_or_blocked, taken_or_blocked};
 
 use vc_base::{Errno, Reply};
+
+/// The reply where a call is refused.
+pub fn refused(errno: Errno) -> Reply
+    ensures { result ≡ Refused errno }
+{
+    Reply::Refused { errno }
+}
 
 /// The reply of a call that has nothing to tell.
 pub fn told(answer: Result<(), Errno>) -> Reply
@@ -33,6 +40,16 @@ pub fn created(answer: Result<(u32, u32), Errno>) -> Reply
 {
     match answer {
         Ok((index, count)) => Reply::Created { index, count },
+        Err(errno) => Reply::Refused { errno },
+    }
+}
+
+/// The reply of a call that tells a value.
+pub fn valued(answer: Result<u32, Errno>) -> Reply
+    ensures { result ≡ told_of Value answer }
+{
+    match answer {
+        Ok(value) => Reply::Value { value },
         Err(errno) => Reply::Refused { errno },
     }
 }

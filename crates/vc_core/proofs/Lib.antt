@@ -1,11 +1,5 @@
-pub mod Answering
-pub mod Claiming
-pub mod Copying
-pub mod Cores
-pub mod Finishing
-pub mod Fitting
-pub mod Moving
-pub mod Refusing
-pub mod Slots
-pub mod Stepping
-pub mod There
+pub mod BeforeMemory
+pub mod JobsOfWorkersAreThere
+pub mod SlotsAnswer
+pub mod StepsOfACore
+pub mod WrittenHoldsFit

@@ -14,7 +14,8 @@ use Rattle.vc_context.specs.Payloads.{FitsSlot}
 -- Where a core stands for a history, the data of a worker's job are those of the history.
 abbrev pub JobsAreThere : Type 0
 JobsAreThere =
-    (coder : Coder) (n w : ℕ) (core : CoreState) (history : List DeviceEvent) (worker k : ℕ) (j : JobData) → Stands coder n w core history → job_of core worker ≡ Some k → worker_job (device_after coder (new_device n) history) worker ≡ Some j → HasJob core worker k j
+    (coder : Coder) (n w : ℕ) (core : CoreState) (history : List DeviceEvent) (worker k : ℕ) (j : JobData) → Stands coder n w core history
+    → job_of core worker ≡ Some k → worker_job (device_after coder (new_device n) history) worker ≡ Some j → HasJob core worker k j
 
 -- Bytes that are written over the front of a held payload leave its size: a hold that fits a slot goes on fitting it.
 abbrev pub WritingFits : Type 0

@@ -1,5 +1,4 @@
 pub mod Contents
-pub mod Copying
 pub mod Jobs
 pub mod Laws
 pub mod Slots

@@ -6,7 +6,6 @@
 //! There are contexts that copy, that encode and that decode.
 #![tactic(auto)]
 
-mod copier;
 mod device;
 mod job;
 pub mod laws;

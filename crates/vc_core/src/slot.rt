@@ -14,12 +14,12 @@ ghost use Rattle.vc_core.specs.Jobs.{IsJobWith, RunsWith, IsOfSlot, RunsInSlot, 
 ghost use Rattle.vc_queue.specs.Holds.{HoldState};
 ghost use Rattle.vc_context.specs.Payloads.{FitsSlot, Moves, handed_over};
 
-use crate::copier::Copier;
 use crate::job::{Finished, Job};
 use std::alloc::Global;
 use std::marker::Model;
 use vc_base::{Call, Errno, Kind, Reply};
 use vc_context::replies::no_memory;
+use vc_copy::Copier;
 use vc_dec::Decoder;
 use vc_enc::Encoder;
 use vc_queue::hold::Hold;

@@ -15,28 +15,11 @@ ghost use Rattle.vc_model.specs.Answer.{control_of, with_control};
 ghost use Rattle.vc_ctrl.specs.Answers.{set_answer};
 
 use std::marker::Model;
+use vc_base::limits::{
+    GOP_CONTROL, IQP_CONTROL, LEAST_CAPTURE_CONTROL, LEAST_OUTPUT_CONTROL, MOST_GOP,
+    MOST_QUANTISER, PQP_CONTROL,
+};
 use vc_base::{Errno, Kind};
-
-/// The frames from one I frame to the next.
-const GOP: u32 = 1;
-
-/// The quantiser of I frames.
-const IQP: u32 = 2;
-
-/// The quantiser of P frames.
-const PQP: u32 = 3;
-
-/// The fewest CAPTURE buffers of a decoder.
-const LEAST_CAPTURE: u32 = 4;
-
-/// The fewest OUTPUT buffers of an encoder.
-const LEAST_OUTPUT: u32 = 5;
-
-/// The most frames from one I frame to the next.
-const MOST_FRAMES: u32 = 16;
-
-/// The coarsest quantiser.
-const MOST_QUANTISER: u32 = 31;
 
 /// The values of the controls that can be set.
 #[derive(Drop)]
@@ -113,10 +96,10 @@ impl Controls {
         ensures { result ≡ ok_or (control_of kind self.now id) Inval }
     {
         match (kind, id) {
-            (Kind::Enc, GOP) => Ok(self.gop),
-            (Kind::Enc, IQP) => Ok(self.iqp),
-            (Kind::Enc, PQP) => Ok(self.pqp),
-            (Kind::Enc, LEAST_OUTPUT) | (Kind::Dec, LEAST_CAPTURE) => Ok(1),
+            (Kind::Enc, GOP_CONTROL) => Ok(self.gop),
+            (Kind::Enc, IQP_CONTROL) => Ok(self.iqp),
+            (Kind::Enc, PQP_CONTROL) => Ok(self.pqp),
+            (Kind::Enc, LEAST_OUTPUT_CONTROL) | (Kind::Dec, LEAST_CAPTURE_CONTROL) => Ok(1),
             _ => Err(Errno::Inval),
         }
     }
@@ -132,9 +115,9 @@ impl Controls {
         ensures range { AreRates self.new }
     {
         match (kind, id) {
-            (Kind::Enc, GOP) if is_within(value, MOST_FRAMES) => self.gop = value,
-            (Kind::Enc, IQP) if is_within(value, MOST_QUANTISER) => self.iqp = value,
-            (Kind::Enc, PQP) if is_within(value, MOST_QUANTISER) => self.pqp = value,
+            (Kind::Enc, GOP_CONTROL) if is_within(value, MOST_GOP) => self.gop = value,
+            (Kind::Enc, IQP_CONTROL) if is_within(value, MOST_QUANTISER) => self.iqp = value,
+            (Kind::Enc, PQP_CONTROL) if is_within(value, MOST_QUANTISER) => self.pqp = value,
             _ => return Err(Errno::Inval),
         }
         Ok(())

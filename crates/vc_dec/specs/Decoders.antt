@@ -1,11 +1,11 @@
 -- A decoder context (docs/DEVICE.md, "One context"; "Memory-to-Memory Stateful Video Decoder Interface").
-use Rattle.std.specs.Prelude.{ℕ, ◌≡◌, ◌<◌, ◌==◌, nat_le, Bool, true, if◌then◌else◌, map, Option, Some, None, List, [], ◌∷◌, ◌++◌, ◌&&◌, false}
+use Rattle.std.specs.Prelude.{ℕ, ◌≡◌, ◌<◌, ◌==◌, nat_le, Bool, true, map, Option, Some, None, List, [], ◌∷◌, ◌++◌, ◌&&◌, false}
 use Rattle.std.specs.List.{list_all, list_any}
 use Rattle.vc_base.specs.declared.Kind.TheVariants.{Dec}
 use Rattle.vc_base.specs.declared.Side.{Side}
 use Rattle.vc_base.specs.declared.Side.TheVariants.{Out, Cap}
 use Rattle.vc_base.specs.Buffers.{Buffer, QueueState, buffer_count}
-use Rattle.vc_base.specs.Events.{EventState, raise_after, eos_event}
+use Rattle.vc_base.specs.Events.{EventState}
 use Rattle.vc_defs.specs.declared.Geometry.{Geometry}
 use Rattle.vc_defs.specs.Decoder.{ReferenceState, DecoderState, fresh_decoder, kept_bytes}
 use Rattle.vc_model.specs.Formats.{FormatPair}
@@ -16,7 +16,7 @@ use Rattle.vc_model.specs.Standing.{some_job, without_job}
 use Rattle.vc_geom.specs.Pairs.{CanStand}
 use Rattle.vc_pair.specs.declared.Phase.{Phase}
 use Rattle.vc_pair.specs.declared.Phase.TheVariants.{Run, Owe, Last, Stopped}
-use Rattle.vc_pair.specs.Pairs.{PairState, raises_end, is_due}
+use Rattle.vc_pair.specs.Pairs.{PairState, is_due}
 use Rattle.vc_work.specs.Streams.{IsInStep}
 use Rattle.vc_context.specs.Contexts.{has_work}
 use Rattle.vc_dec.specs.declared.Dest.{Dest}
@@ -153,14 +153,6 @@ pub record IsDecoder (formats : FormatPair) (geometry : Option Geometry) (p : Pa
   pub served : AreServed (lent_room job ++ parts.rooms) p.cap
   pub lent : IsLentOut parts.present job
   pub due : IsBeforeMark p job
-
--- the event of the end of a drain is raised
-abbrev pub end_raised : Bool → EventState → EventState
-end_raised ended events = if ended then raise_after events eos_event 0 else events
-
--- the events after the pair has settled
-abbrev pub events_settled : PairState → EventState → EventState
-events_settled p events = end_raised (raises_end p) events
 
 -- the state of the codec when the side stops streaming: on OUTPUT that is the seek ("Seek")
 abbrev pub sought_anew : Side → DecoderState → DecoderState

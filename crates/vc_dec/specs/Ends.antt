@@ -1,8 +1,9 @@
 -- What the end of a job leaves of its buffers (docs/DEVICE.md, "Runs").
 use Rattle.std.specs.Prelude.{ℕ, ◌≡◌, Bool, true, false, take, Option, Some, None, Result, Ok, List, []}
 use Rattle.vc_base.specs.declared.Stamp.{Stamp}
-use Rattle.vc_base.specs.Buffers.{give_back_after, error_flag}
-use Rattle.vc_base.specs.Events.{EventState, raise_after, source_change_event}
+use Rattle.vc_base.specs.Buffers.{give_back_after}
+use Rattle.vc_base.specs.Limits.{error_flag, source_change_event}
+use Rattle.vc_base.specs.Events.{EventState, raise_after}
 use Rattle.vc_defs.specs.declared.Geometry.{Geometry}
 use Rattle.vc_defs.specs.Headers.{is_legal_geometry}
 use Rattle.vc_model.specs.Formats.{FormatPair, formats_found}
@@ -16,7 +17,7 @@ use Rattle.vc_work.specs.declared.engine.EngineFault.{EngineFault}
 use Rattle.vc_dec.specs.declared.Dest.{Dest}
 use Rattle.vc_dec.specs.declared.finishing.RunEnd.{RunEnd}
 use Rattle.vc_dec.specs.declared.finishing.Shown.{Shown}
-use Rattle.vc_dec.specs.Decoders.{end_raised, events_settled}
+use Rattle.vc_m2m.specs.Settling.{end_raised, events_settled}
 
 -- what a run leaves of its buffers, where its source is used up or not and was queued with the stamp; after a fault both
 -- come back with ERROR

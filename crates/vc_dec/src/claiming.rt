@@ -116,13 +116,18 @@ impl Decoder {
         ensures runs { RunsInWith self.new (claimed_in (Some self.old)) }
         ensures holds { (hold : HoldState) → FitsContext self.old hold → FitsContext self.new hold }
     {
-        let source = self.pair.lend(Side::Out);
+        let source = self.m2m.pair.lend(Side::Out);
         self.job = Some(InJob {
             source: source.index,
             dest: None,
         });
         let assembly = self.codec.lend_assembly();
-        probe_work(source, assembly, self.formats.cap, self.formats.out.size)
+        probe_work(
+            source,
+            assembly,
+            self.m2m.formats.cap,
+            self.m2m.formats.out.size,
+        )
     }
 
     /// Takes the front buffers of both queues, the assembly and a reference into a decode run.
@@ -138,8 +143,8 @@ impl Decoder {
         ensures runs { RunsInWith self.new (claimed_in (Some self.old)) }
         ensures holds { (hold : HoldState) → FitsContext self.old hold → FitsContext self.new hold }
     {
-        let source = self.pair.lend(Side::Out);
-        let dest = self.pair.lend(Side::Cap);
+        let source = self.m2m.pair.lend(Side::Out);
+        let dest = self.m2m.pair.lend(Side::Cap);
         let length = dest.payload.len();
         self.job = Some(InJob {
             source: source.index,
@@ -154,7 +159,14 @@ impl Decoder {
             reference,
             assembly,
         };
-        let limit = self.formats.out.size;
-        decode_work(source, dest, taken, self.geometry, self.formats.cap, limit)
+        let limit = self.m2m.formats.out.size;
+        decode_work(
+            source,
+            dest,
+            taken,
+            self.geometry,
+            self.m2m.formats.cap,
+            limit,
+        )
     }
 }

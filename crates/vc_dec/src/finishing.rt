@@ -2,8 +2,8 @@
 
 ghost use Rattle.std.specs.Prelude.{◌≡◌, ◌≢◌, ◌<◌, ◌^◌, [], take, None, Some, true, if◌then◌else◌};
 ghost use Rattle.std.specs.Option.{option_map};
-ghost use Rattle.vc_base.specs.Buffers.{error_flag};
-ghost use Rattle.vc_base.specs.Events.{raise_after, source_change_event};
+ghost use Rattle.vc_base.specs.Limits.{error_flag, source_change_event};
+ghost use Rattle.vc_base.specs.Events.{raise_after};
 ghost use Rattle.vc_defs.specs.Decoder.{fresh_decoder};
 ghost use Rattle.vc_model.specs.Context.{run};
 ghost use Rattle.vc_model.specs.Core.{BroughtBack, finished_context};
@@ -16,28 +16,23 @@ ghost use Rattle.vc_pair.specs.Pairs.{cap_retired, is_final, IsIdle, FitsBoth, p
 ghost use Rattle.vc_context.specs.Contexts.{HasRoom, IsKept, IsStep};
 ghost use Rattle.vc_context.specs.Payloads.{FitsContext};
 ghost use Rattle.vc_context.specs.Works.{RunsIn, IsBack as IsWorkBack, IsBackOf};
-ghost use Rattle.vc_dec.specs.Decoders.{end_raised};
+ghost use Rattle.vc_m2m.specs.Settling.{end_raised};
 ghost use Rattle.vc_dec.specs.Ends.{end_of, source_put, dest_put, IsDestBack, dest_ended, events_ended, IsLentDest, formats_behind, IsLegalChange};
 
 use crate::codec::Codec;
-use crate::settling::{raise_end, settle};
 use crate::{Decoder, Dest};
 use bitflags::Flags;
 use vc_base::flags::BufFlags;
+use vc_base::limits::{RESOLUTION_CHANGE, SOURCE_CHANGE_EVENT};
 use vc_base::{Side, Stamp};
 use vc_context::jobs::{dest_back, source_back};
 use vc_defs::Geometry;
 use vc_event::Events;
 use vc_geom::{Formats, formats_found};
+use vc_m2m::settling::{raise_end, settle};
 use vc_pair::Pair;
 use vc_queue::queue::Lent;
 use vc_work::{EngineFault, Outcome, Work};
-
-/// The type of the event at a change of the stream.
-const SOURCE_CHANGE: u32 = 5;
-
-/// The resolution is what changed.
-const RESOLUTION: u32 = 1;
 
 /// What the destination of a run has at its front.
 #[derive(Clone, Copy, Debug, PartialEq, Eq)]
@@ -183,7 +178,7 @@ fn stop_by_change(pair: &mut Pair, events: &mut Events)
 {
     pair.change();
     pair.settle();
-    events.raise(SOURCE_CHANGE, RESOLUTION);
+    events.raise(SOURCE_CHANGE_EVENT, RESOLUTION_CHANGE);
 }
 
 /// Puts a destination that shows something to done. At the end of a drain it has LAST, and the end is told by an
@@ -284,10 +279,10 @@ impl Decoder {
         let end = end_of(&outcome, source.cursor == source.used, source.stamp);
         let source = source_back(job.source, source);
         let dest = lent_back(job.dest, dest);
-        put_source(&mut self.pair, source, end.used_up, end.source_flags);
-        end_dest(&mut self.pair, &mut self.events, dest, &end);
+        put_source(&mut self.m2m.pair, source, end.used_up, end.source_flags);
+        end_dest(&mut self.m2m.pair, &mut self.m2m.events, dest, &end);
         begin_anew_where(end.fault, &mut self.codec);
-        self.formats = formats_behind(end.changed, &self.formats);
+        self.m2m.formats = formats_behind(end.changed, &self.m2m.formats);
         self.geometry = end.changed.or(self.geometry);
     }
 }

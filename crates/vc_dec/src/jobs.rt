@@ -62,6 +62,6 @@ impl Decoder {
     pub fn ready(&self) -> bool
         ensures { result ≡ is_claimable (Some self.now) }
     {
-        may_run(self.job, self.pair.phase()) && is_job_due(self.geometry, &self.pair)
+        may_run(self.job, self.m2m.pair.phase()) && is_job_due(self.geometry, &self.m2m.pair)
     }
 }

@@ -12,28 +12,22 @@ ghost use Rattle.vc_model.specs.Core.{unless_memory};
 ghost use Rattle.vc_context.specs.Contexts.{HasRoom, GivesWithMemory, IsKept, IsStep, TakesMemory, is_close};
 ghost use Rattle.vc_context.specs.Payloads.{FitsContext, Moves, handed_over};
 
-mod buffers;
 mod claiming;
 mod codec;
-mod commands;
+mod controls;
 mod finishing;
 mod formats;
 mod jobs;
 mod making;
-mod settings;
-mod settling;
 mod streaming;
 
 use crate::codec::Codec;
 use std::alloc::Global;
 use std::marker::Model;
-use vc_base::{Call, Errno, Kind, NoMemory, Reply};
-use vc_context::refusals::{create_refusal, reqbufs_refusal};
-use vc_context::replies::{no_command, nothing_such};
+use vc_base::{Call, Kind, NoMemory, Reply};
+use vc_context::replies::nothing_such;
 use vc_defs::Geometry;
-use vc_event::Events;
-use vc_geom::{Formats, open_formats};
-use vc_pair::Pair;
+use vc_m2m::M2mContext;
 use vc_queue::hold::Hold;
 
 /// The CAPTURE buffer of the running job: its index, and its length in bytes.
@@ -50,14 +44,12 @@ struct InJob {
     dest: Option<Dest>,
 }
 
-/// A decoder context: its queues, formats and events, the geometry of its stream once that was found, and
-/// what the codec keeps from run to run. That is with the job while one runs.
+/// A decoder context: what it has in common with an encoder, the geometry of its stream once that was found,
+/// and what the codec keeps from run to run. That is with the job while one runs.
 #[derive(Drop)]
 pub struct Decoder {
-    pair: Pair,
-    formats: Formats,
+    m2m: M2mContext,
     geometry: Option<Geometry>,
-    events: Events,
     codec: Codec,
     job: Option<InJob>,
 }
@@ -69,9 +61,9 @@ impl Model for Decoder {
 
     ghost Value = { Context };
 
-    ghost view = { λ d. decoder_state (pair_of d.formats) d.geometry d.pair d.events d.codec.state d.job };
+    ghost view = { λ d. decoder_state (pair_of d.m2m.formats) d.geometry d.m2m.pair d.m2m.events d.codec.state d.job };
 
-    ghost invariant = { λ d. IsDecoder (pair_of d.formats) d.geometry d.pair d.events d.codec d.job };
+    ghost invariant = { λ d. IsDecoder (pair_of d.m2m.formats) d.geometry d.m2m.pair d.m2m.events d.codec d.job };
 }
 
 impl Decoder {
@@ -82,12 +74,10 @@ impl Decoder {
     pub fn make(alloc: Global) -> Result<Decoder, NoMemory>
         ensures { IfOk result (λ d. d ≡ fresh_context Dec) }
     {
-        let events = Events::make(alloc)?;
+        let m2m = M2mContext::make(alloc, Kind::Dec)?;
         Ok(Decoder {
-            pair: Pair::new(),
-            formats: open_formats(Kind::Dec),
+            m2m,
             geometry: None,
-            events,
             codec: Codec::new(alloc),
             job: None,
         })
@@ -104,11 +94,7 @@ impl Decoder {
         ensures moves { Moves (Some self.old) call.now result hold.old hold.new }
         ensures fit { FitsContext self.new hold.new }
     {
-        let _ = &self.pair;
         match *call {
-            Call::EnumFmt { side, index } => self.enum_format(side, index),
-            Call::GetFmt { side } => self.format(side),
-            Call::TryFmt { side, want } => self.try_format(side, &want),
             Call::SetFmt { side, want } => self.set_format(side, &want),
             Call::ReqBufs { side, count } => self.reqbufs(alloc, side, count, hold),
             Call::CreateBufs {
@@ -116,26 +102,14 @@ impl Decoder {
                 count,
                 length,
             } => self.create(alloc, side, count, length, hold),
-            Call::QueryBuf { side, index } => self.querybuf(side, index),
-            Call::QBuf {
-                side,
-                index,
-                used,
-                stamp,
-            } => self.qbuf(side, index, used, stamp, hold),
-            Call::DqBuf { side, block } => self.dqbuf(side, block, hold),
-            Call::StreamOn { side } => self.streamon(side),
             Call::StreamOff { side } => self.streamoff(side, hold),
-            Call::Subscribe { event } => self.subscribe(event),
-            Call::Unsubscribe { event } => self.unsubscribe(event),
-            Call::DqEvent { block } => self.dqevent(block),
-            Call::DecCmd { cmd } => self.command(cmd),
-            Call::EncCmd { .. } => no_command(),
             Call::GetCtrl { id } => self.control(id),
-            Call::SetCtrl { .. } => nothing_such(),
-            Call::Poll => self.poll(),
-            Call::Open { .. } => Reply::Refused { errno: Errno::Busy },
-            Call::Close => Reply::Blocked,
+            Call::SetCtrl { .. } => {
+                // That a decoder has no control to set is known of its parts alone, so the proof looks at them.
+                let _ = &self.m2m;
+                nothing_such()
+            }
+            _ => self.m2m.answer(Kind::Dec, call, hold),
         }
     }
 
@@ -144,16 +118,7 @@ impl Decoder {
         requires { TakesMemory call.now }
         ensures { result ≡ unless_memory (context_answer self.now call.now [] false).reply }
     {
-        let _ = &self.pair;
-        match *call {
-            Call::ReqBufs { side, .. } => reqbufs_refusal(self.pair.queue(side)),
-            Call::CreateBufs {
-                side,
-                count,
-                length,
-            } => create_refusal(self.pair.queue(side), count, length),
-            _ => Some(Reply::Refused { errno: Errno::Busy }),
-        }
+        self.m2m.refusal(call)
     }
 }
 

@@ -9,12 +9,12 @@ ghost use Rattle.vc_context.specs.Payloads.{FitsContext, Moves};
 ghost use Rattle.vc_dec.specs.Decoders.{lent_room, serves};
 
 use crate::codec::{Codec, new_assembly, new_reference};
-use crate::settling::settle;
 use crate::{Decoder, InJob};
 use std::alloc::Global;
 use vc_base::{Reply, Side};
 use vc_context::refusals::{create_refusal, reqbufs_refusal};
 use vc_context::replies::no_memory;
+use vc_m2m::settling::settle;
 use vc_queue::hold::Hold;
 
 /// Whether the CAPTURE buffer in the job, where there is one, has the length.
@@ -92,19 +92,19 @@ impl Decoder {
         ensures moves { Moves (Some self.old) (ReqBufs Out count) result hold.old hold.new }
         ensures fit { FitsContext self.new hold.new }
     {
-        if let Some(reply) = reqbufs_refusal(self.pair.queue(Side::Out)) {
+        if let Some(reply) = reqbufs_refusal(self.m2m.pair.queue(Side::Out)) {
             return reply;
         }
-        let size = self.formats.out.size;
+        let size = self.m2m.formats.out.size;
         let Ok(assembly) = new_assembly(alloc, count > 0, size) else {
             return no_memory();
         };
-        let Ok(count) = self.pair.reqbufs(alloc, Side::Out, count, size, hold) else {
+        let Ok(count) = self.m2m.pair.reqbufs(alloc, Side::Out, count, size, hold) else {
             return no_memory();
         };
         self.codec.begin(assembly);
         self.geometry = None;
-        settle(&mut self.pair, &mut self.events);
+        settle(&mut self.m2m.pair, &mut self.m2m.events);
         Reply::Count { count }
     }
 
@@ -119,18 +119,18 @@ impl Decoder {
         ensures moves { Moves (Some self.old) (ReqBufs Cap count) result hold.old hold.new }
         ensures fit { FitsContext self.new hold.new }
     {
-        if let Some(reply) = reqbufs_refusal(self.pair.queue(Side::Cap)) {
+        if let Some(reply) = reqbufs_refusal(self.m2m.pair.queue(Side::Cap)) {
             return reply;
         }
-        let size = self.formats.cap.size;
+        let size = self.m2m.formats.cap.size;
         let Ok(reference) = new_reference(alloc, count > 0, size) else {
             return no_memory();
         };
-        let Ok(count) = self.pair.reqbufs(alloc, Side::Cap, count, size, hold) else {
+        let Ok(count) = self.m2m.pair.reqbufs(alloc, Side::Cap, count, size, hold) else {
             return no_memory();
         };
         self.codec.replace(reference);
-        settle(&mut self.pair, &mut self.events);
+        settle(&mut self.m2m.pair, &mut self.m2m.events);
         Reply::Count { count }
     }
 
@@ -167,18 +167,18 @@ impl Decoder {
         ensures moves { Moves (Some self.old) (CreateBufs Out count length) result hold.old hold.new }
         ensures fit { FitsContext self.new hold.new }
     {
-        if let Some(reply) = create_refusal(self.pair.queue(Side::Out), count, length) {
+        if let Some(reply) = create_refusal(self.m2m.pair.queue(Side::Out), count, length) {
             return reply;
         }
-        let first = are_first(self.pair.queue(Side::Out).buffers(), count);
-        let Ok(assembly) = new_assembly(alloc, first, self.formats.out.size) else {
+        let first = are_first(self.m2m.pair.queue(Side::Out).buffers(), count);
+        let Ok(assembly) = new_assembly(alloc, first, self.m2m.formats.out.size) else {
             return no_memory();
         };
-        let Ok((index, count)) = self.pair.create(alloc, Side::Out, count, length, hold) else {
+        let Ok((index, count)) = self.m2m.pair.create(alloc, Side::Out, count, length, hold) else {
             return no_memory();
         };
         self.codec.supply(assembly);
-        settle(&mut self.pair, &mut self.events);
+        settle(&mut self.m2m.pair, &mut self.m2m.events);
         Reply::Created { index, count }
     }
 
@@ -192,7 +192,7 @@ impl Decoder {
         ensures moves { Moves (Some self.old) (CreateBufs Cap count length) result hold.old hold.new }
         ensures fit { FitsContext self.new hold.new }
     {
-        if let Some(reply) = create_refusal(self.pair.queue(Side::Cap), count, length) {
+        if let Some(reply) = create_refusal(self.m2m.pair.queue(Side::Cap), count, length) {
             return reply;
         }
         let missing = is_missing(self.job, &self.codec, count, length);
@@ -202,10 +202,10 @@ impl Decoder {
         if self.codec.add(reference).is_err() {
             return no_memory();
         }
-        let Ok((index, count)) = self.pair.create(alloc, Side::Cap, count, length, hold) else {
+        let Ok((index, count)) = self.m2m.pair.create(alloc, Side::Cap, count, length, hold) else {
             return no_memory();
         };
-        settle(&mut self.pair, &mut self.events);
+        settle(&mut self.m2m.pair, &mut self.m2m.events);
         Reply::Created { index, count }
     }
 }

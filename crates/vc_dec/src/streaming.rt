@@ -1,19 +1,16 @@
-//! Streaming: VIDIOC_STREAMON and VIDIOC_STREAMOFF.
+//! The end of streaming: VIDIOC_STREAMOFF.
 
 ghost use Rattle.std.specs.Prelude.{◌≡◌, Some};
 ghost use Rattle.vc_base.specs.declared.Call.TheVariants.{StreamOff};
-ghost use Rattle.vc_model.specs.Answer.{streamon_answer, streamoff_answer};
+ghost use Rattle.vc_model.specs.Answer.{streamoff_answer};
 ghost use Rattle.vc_context.specs.Contexts.{HasRoom, IsKept, IsStep, Gives};
 ghost use Rattle.vc_context.specs.Payloads.{FitsContext, Moves};
-ghost use Rattle.vc_dec.specs.Serving.{Serves};
 ghost use Rattle.vc_dec.specs.Decoders.{sought_anew};
 
 use crate::Decoder;
 use crate::codec::Codec;
-use crate::formats::format_of;
-use crate::settling::settle;
 use vc_base::{Reply, Side};
-use vc_context::replies::told;
+use vc_m2m::settling::settle;
 use vc_queue::hold::Hold;
 
 /// The seek: when OUTPUT stops streaming the codec begins anew.
@@ -26,18 +23,6 @@ fn seek(side: Side, codec: &mut Codec)
 }
 
 impl Decoder {
-    /// Lets a queue stream.
-    pub(crate) fn streamon(&mut self, side: Side) -> Reply
-        requires kept { IsKept self.old }
-        requires room { HasRoom self.old }
-        ensures { Serves (streamon_answer self.old side) result self.old self.new }
-    {
-        let least = format_of(&self.formats, side).size;
-        let answer = self.pair.streamon(side, least);
-        settle(&mut self.pair, &mut self.events);
-        told(answer)
-    }
-
     /// Ends streaming of a queue, unless a job runs: its ready and done buffers go back to the user. On
     /// OUTPUT this is the seek.
     pub(crate) fn streamoff(&mut self, side: Side, hold: &mut Hold) -> Reply
@@ -52,9 +37,9 @@ impl Decoder {
         if self.job.is_some() {
             return Reply::Blocked;
         }
-        self.pair.streamoff(side, hold);
+        self.m2m.pair.streamoff(side, hold);
         seek(side, &mut self.codec);
-        settle(&mut self.pair, &mut self.events);
+        settle(&mut self.m2m.pair, &mut self.m2m.events);
         Reply::Done
     }
 }

@@ -1,5 +1,5 @@
 -- An encoder context (docs/DEVICE.md, "One context"; "Memory-to-Memory Stateful Video Encoder Interface").
-use Rattle.std.specs.Prelude.{ℕ, ◌≡◌, ◌<◌, ◌==◌, nat_lt, Bool, true, false, not, if◌then◌else◌, map, Option, Some, None, List, [], ◌∷◌}
+use Rattle.std.specs.Prelude.{ℕ, ◌≡◌, ◌<◌, ◌==◌, nat_lt, Bool, true, false, if◌then◌else◌, map, Option, Some, None, List, [], ◌∷◌}
 use Rattle.std.specs.List.{list_all}
 use Rattle.std.specs.Option.{option_map}
 use Rattle.vc_base.specs.declared.Kind.TheVariants.{Enc}
@@ -7,7 +7,7 @@ use Rattle.vc_base.specs.declared.Side.{Side}
 use Rattle.vc_base.specs.declared.Side.TheVariants.{Out, Cap}
 use Rattle.vc_base.specs.declared.Format.{Format}
 use Rattle.vc_base.specs.Buffers.{Buffer, QueueState, buffer_count}
-use Rattle.vc_base.specs.Events.{EventState, raise_after, eos_event}
+use Rattle.vc_base.specs.Events.{EventState}
 use Rattle.vc_defs.specs.Encoder.{RunRates, fresh_encoder}
 use Rattle.vc_model.specs.Formats.{FormatPair}
 use Rattle.vc_model.specs.Coder.{CodecState, no_codec, encoder}
@@ -15,7 +15,7 @@ use Rattle.vc_model.specs.Context.{Context, Running, run}
 use Rattle.vc_model.specs.Sound.{AreLong}
 use Rattle.vc_model.specs.Standing.{some_job}
 use Rattle.vc_geom.specs.Pairs.{CanStand}
-use Rattle.vc_pair.specs.Pairs.{PairState, IsSettled, raises_end}
+use Rattle.vc_pair.specs.Pairs.{PairState, IsSettled}
 use Rattle.vc_work.specs.References.{CodecReference}
 use Rattle.vc_work.specs.Runs.{coder_state, with_state, HasReference}
 use Rattle.vc_enc.specs.declared.InJob.{InJob}
@@ -77,14 +77,6 @@ pub record IsEncoder (formats : FormatPair) (p : PairState) (reference : Option 
   pub long : AreLong formats.cap.size p.cap.ready
   pub known : KnowsItsJob formats.out p reference job
 
--- the event of the end of a drain is raised
-abbrev pub end_raised : Bool → EventState → EventState
-end_raised ended events = if ended then raise_after events eos_event 0 else events
-
--- the events after the pair has settled
-abbrev pub events_settled : PairState → EventState → EventState
-events_settled p events = end_raised (raises_end p) events
-
 -- the reference that so many new OUTPUT buffers of the size need
 abbrev pub new_reference : ℕ → ℕ → Option CodecReference
 new_reference count size =
@@ -98,11 +90,6 @@ ends_capture Cap p = p.cap.streams
 -- the reference, without its picture where the codec has to begin anew
 abbrev pub anew_where : Bool → Option CodecReference → Option CodecReference
 anew_where due reference = if due then option_map (with_state fresh_encoder) reference else reference
-
--- on OUTPUT a number of used bytes other than that of a picture
-abbrev pub is_part : Side → ℕ → ℕ → Bool
-is_part Out used size = not (used == size)
-is_part Cap used size = false
 
 -- OUTPUT has buffers, where it is to get more
 abbrev pub HasSources : Side → Context → Type 0

@@ -1,7 +1,7 @@
 -- The work of an encoder's job (docs/DEVICE.md, "Runs"; "Encoding" of the stateful encoder).
 use Rattle.std.specs.Prelude.{◌≡◌, ◌≤◌, ◌+◌, vec_len, length, true, false, if◌then◌else◌, Option, Some, None, Result, Ok}
 use Rattle.vc_base.specs.declared.Format.{Format}
-use Rattle.vc_base.specs.Buffers.{keyframe_flag, pframe_flag, error_flag}
+use Rattle.vc_base.specs.Limits.{keyframe_flag, pframe_flag, error_flag}
 use Rattle.vc_defs.specs.Bodies.{padded_sum}
 use Rattle.vc_defs.specs.Laws.{IsRawFormat, AreRates}
 use Rattle.vc_model.specs.Context.{encode}

@@ -13,7 +13,6 @@ ghost use Rattle.vc_context.specs.Payloads.{FitsContext};
 ghost use Rattle.vc_context.specs.Works.{IsWork, IsWorkWith, RunsIn, RunsInWith, IsBack, IsBackOf};
 ghost use Rattle.vc_enc.specs.Works.{IsGiven, CanEncode, end_of};
 
-use crate::settling::raise_end;
 use crate::streaming::begin_anew_where;
 use crate::{Encoder, InJob};
 use bitflags::Flags;
@@ -22,6 +21,7 @@ use vc_base::{Format, Side};
 use vc_context::jobs::{dest_back, dest_of, source_back, source_of};
 use vc_context::refusals::has_work;
 use vc_ctrl::Controls;
+use vc_m2m::settling::raise_end;
 use vc_pair::{Pair, Phase};
 use vc_queue::queue::Lent;
 use vc_work::{EngineFault, Outcome, Rates, Reference, Sort, Work};
@@ -129,9 +129,9 @@ impl Encoder {
     pub fn ready(&self) -> bool
         ensures { result ≡ is_claimable (Some self.now) }
     {
-        let source = has_work(self.pair.queue(Side::Out));
-        let dest = has_work(self.pair.queue(Side::Cap));
-        let may_run = may_run(&self.pair);
+        let source = has_work(self.m2m.pair.queue(Side::Out));
+        let dest = has_work(self.m2m.pair.queue(Side::Cap));
+        let may_run = may_run(&self.m2m.pair);
         is_due(self.job.is_some(), source, dest, may_run)
     }
 
@@ -147,15 +147,15 @@ impl Encoder {
         ensures runs { RunsInWith self.new (claimed_in (Some self.old)) }
         ensures holds { (hold : HoldState) → FitsContext self.old hold → FitsContext self.new hold }
     {
-        let source = self.pair.lend(Side::Out);
-        let dest = self.pair.lend(Side::Cap);
+        let source = self.m2m.pair.lend(Side::Out);
+        let dest = self.m2m.pair.lend(Side::Cap);
         self.job = Some(InJob {
             source: source.index,
             dest: dest.index,
         });
         let reference = self.reference.take();
         let rates = rates_of(&self.controls);
-        encode_work(source, dest, reference, self.formats.out, rates)
+        encode_work(source, dest, reference, self.m2m.formats.out, rates)
     }
 
     /// Takes the work of the running job back. Its buffers go to done, and the codec goes on from the frame,
@@ -183,9 +183,12 @@ impl Encoder {
         begin_anew_where(end.fault, &mut self.reference);
         let stamp = source.stamp;
         let source = source_back(job.source, source);
-        self.pair.retire_out(source, end.source_flags);
+        self.m2m.pair.retire_out(source, end.source_flags);
         let dest = dest_back(job.dest, payload);
-        let ended = self.pair.retire_cap(dest, end.used, end.dest_flags, stamp);
-        raise_end(ended, &mut self.events);
+        let ended = self
+            .m2m
+            .pair
+            .retire_cap(dest, end.used, end.dest_flags, stamp);
+        raise_end(ended, &mut self.m2m.events);
     }
 }

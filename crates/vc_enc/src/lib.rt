@@ -17,24 +17,16 @@ ghost use Rattle.vc_context.specs.Contexts.{HasRoom, GivesWithMemory, IsKept, Is
 ghost use Rattle.vc_context.specs.Payloads.{FitsContext, Moves, handed_over};
 
 mod buffers;
-mod commands;
+mod controls;
 mod formats;
 mod jobs;
-mod replies;
-mod settings;
-mod settling;
 mod streaming;
 
-use crate::replies::refused;
 use std::alloc::Global;
 use std::marker::Model;
-use vc_base::{Call, Errno, Kind, NoMemory, Reply};
-use vc_context::refusals::{create_refusal, reqbufs_refusal};
-use vc_context::replies::no_command;
+use vc_base::{Call, Kind, NoMemory, Reply};
 use vc_ctrl::Controls;
-use vc_event::Events;
-use vc_geom::{Formats, open_formats};
-use vc_pair::Pair;
+use vc_m2m::M2mContext;
 use vc_queue::hold::Hold;
 use vc_work::Reference;
 
@@ -45,15 +37,13 @@ struct InJob {
     dest: u32,
 }
 
-/// An encoder context: its queues, formats, controls and events, and what the codec keeps from frame to
-/// frame. That is here while OUTPUT has buffers and no job runs; without it the next frame is an I frame
+/// An encoder context: what it has in common with a decoder, its controls, and what the codec keeps from frame
+/// to frame. That is here while OUTPUT has buffers and no job runs; without it the next frame is an I frame
 /// with the number 0.
 #[derive(Drop)]
 pub struct Encoder {
-    pair: Pair,
-    formats: Formats,
+    m2m: M2mContext,
     controls: Controls,
-    events: Events,
     reference: Option<Reference>,
     job: Option<InJob>,
 }
@@ -65,9 +55,9 @@ impl Model for Encoder {
 
     ghost Value = { Context };
 
-    ghost view = { λ e. encoder_state (pair_of e.formats) e.controls e.pair e.events e.reference e.job };
+    ghost view = { λ e. encoder_state (pair_of e.m2m.formats) e.controls e.m2m.pair e.m2m.events e.reference e.job };
 
-    ghost invariant = { λ e. IsEncoder (pair_of e.formats) e.pair e.reference e.job };
+    ghost invariant = { λ e. IsEncoder (pair_of e.m2m.formats) e.m2m.pair e.reference e.job };
 }
 
 impl Encoder {
@@ -78,12 +68,10 @@ impl Encoder {
     pub fn make(alloc: Global) -> Result<Encoder, NoMemory>
         ensures { IfOk result (λ e. e ≡ fresh_context Enc) }
     {
-        let events = Events::make(alloc)?;
+        let m2m = M2mContext::make(alloc, Kind::Enc)?;
         Ok(Encoder {
-            pair: Pair::new(),
-            formats: open_formats(Kind::Enc),
+            m2m,
             controls: Controls::new(),
-            events,
             reference: None,
             job: None,
         })
@@ -100,11 +88,7 @@ impl Encoder {
         ensures moves { Moves (Some self.old) call.now result hold.old hold.new }
         ensures fit { FitsContext self.new hold.new }
     {
-        let _ = &self.pair;
         match *call {
-            Call::EnumFmt { side, index } => self.enum_format(side, index),
-            Call::GetFmt { side } => self.format(side),
-            Call::TryFmt { side, want } => self.try_format(side, &want),
             Call::SetFmt { side, want } => self.set_format(side, &want),
             Call::ReqBufs { side, count } => self.reqbufs(alloc, side, count, hold),
             Call::CreateBufs {
@@ -112,26 +96,10 @@ impl Encoder {
                 count,
                 length,
             } => self.create(alloc, side, count, length, hold),
-            Call::QueryBuf { side, index } => self.querybuf(side, index),
-            Call::QBuf {
-                side,
-                index,
-                used,
-                stamp,
-            } => self.qbuf(side, index, used, stamp, hold),
-            Call::DqBuf { side, block } => self.dqbuf(side, block, hold),
-            Call::StreamOn { side } => self.streamon(side),
             Call::StreamOff { side } => self.streamoff(side, hold),
-            Call::Subscribe { event } => self.subscribe(event),
-            Call::Unsubscribe { event } => self.unsubscribe(event),
-            Call::DqEvent { block } => self.dqevent(block),
-            Call::DecCmd { .. } => no_command(),
-            Call::EncCmd { cmd } => self.command(cmd),
             Call::GetCtrl { id } => self.control(id),
             Call::SetCtrl { id, value } => self.set_control(id, value),
-            Call::Poll => self.poll(),
-            Call::Open { .. } => refused(Errno::Busy),
-            Call::Close => Reply::Blocked,
+            _ => self.m2m.answer(Kind::Enc, call, hold),
         }
     }
 
@@ -141,16 +109,7 @@ impl Encoder {
         requires { TakesMemory call.now }
         ensures { result ≡ unless_memory (context_answer self.now call.now [] false).reply }
     {
-        let _ = &self.pair;
-        match *call {
-            Call::ReqBufs { side, .. } => reqbufs_refusal(self.pair.queue(side)),
-            Call::CreateBufs {
-                side,
-                count,
-                length,
-            } => create_refusal(self.pair.queue(side), count, length),
-            _ => Some(refused(Errno::Busy)),
-        }
+        self.m2m.refusal(call)
     }
 }
 

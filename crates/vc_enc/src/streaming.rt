@@ -1,18 +1,15 @@
-//! Streaming: VIDIOC_STREAMON and VIDIOC_STREAMOFF.
+//! The end of streaming: VIDIOC_STREAMOFF.
 
 ghost use Rattle.std.specs.Prelude.{◌≡◌, Some};
 ghost use Rattle.vc_base.specs.declared.Call.TheVariants.{StreamOff};
-ghost use Rattle.vc_model.specs.Answer.{streamon_answer, streamoff_answer};
+ghost use Rattle.vc_model.specs.Answer.{streamoff_answer};
 ghost use Rattle.vc_context.specs.Contexts.{HasRoom, IsKept, IsStep, Gives};
 ghost use Rattle.vc_context.specs.Payloads.{FitsContext, Moves};
 ghost use Rattle.vc_enc.specs.Encoders.{ends_capture, anew_where};
-ghost use Rattle.vc_enc.specs.Serving.{Serves};
 
 use crate::Encoder;
-use crate::formats::format_of;
-use crate::settling::settle;
 use vc_base::{Reply, Side};
-use vc_context::replies::told;
+use vc_m2m::settling::settle;
 use vc_pair::Pair;
 use vc_queue::hold::Hold;
 use vc_work::Reference;
@@ -40,18 +37,6 @@ pub(crate) fn begin_anew_where(due: bool, reference: &mut Option<Reference>)
 }
 
 impl Encoder {
-    /// Lets a queue stream.
-    pub(crate) fn streamon(&mut self, side: Side) -> Reply
-        requires kept { IsKept self.old }
-        requires room { HasRoom self.old }
-        ensures { Serves (streamon_answer self.old side) result self.old self.new }
-    {
-        let least = format_of(&self.formats, side).size;
-        let answer = self.pair.streamon(side, least);
-        settle(&mut self.pair, &mut self.events);
-        told(answer)
-    }
-
     /// Ends streaming of a queue, unless a job runs: its ready and done buffers go back to the user. Where
     /// CAPTURE streamed the codec begins anew.
     pub(crate) fn streamoff(&mut self, side: Side, hold: &mut Hold) -> Reply
@@ -66,10 +51,10 @@ impl Encoder {
         if self.job.is_some() {
             return Reply::Blocked;
         }
-        let due = ends_capture(&self.pair, side);
-        self.pair.streamoff(side, hold);
+        let due = ends_capture(&self.m2m.pair, side);
+        self.m2m.pair.streamoff(side, hold);
         begin_anew_where(due, &mut self.reference);
-        settle(&mut self.pair, &mut self.events);
+        settle(&mut self.m2m.pair, &mut self.m2m.events);
         Reply::Done
     }
 }

@@ -8,7 +8,7 @@ ghost use Rattle.vc_context.specs.Payloads.{FitsContext};
 use super::*;
 use std::process::Abort;
 use std::test::Fail;
-use vc_base::{Format, Fourcc, Side, Stamp};
+use vc_base::{Errno, Format, Fourcc, Side, Stamp};
 use vc_work::{EngineFault, Outcome};
 
 /// A step of a context: a call with its reply, a run that gives a frame, or one that the engine gives up.
@@ -65,7 +65,7 @@ fn frame(rt: &impl Abort, encoder: &mut Encoder, hold: &Hold, key: bool, count: 
     let ready = encoder.ready();
     assert!(rt; ready);
     let work = encoder.claim();
-    let _ = &encoder.pair;
+    let _ = &encoder.m2m;
     encoder.finish(work, Ok(Outcome::Encoded { used: 8, key }));
 }
 

@@ -5,6 +5,7 @@ use Rattle.vc_base.specs.declared.Kind.{Kind}
 use Rattle.vc_base.specs.declared.Kind.TheVariants.{Copy, Enc, Dec}
 use Rattle.vc_base.specs.declared.Fourcc.{Fourcc}
 use Rattle.vc_base.specs.declared.Format.{Format}
+use Rattle.vc_base.specs.Limits.{most_bytes, longest_buffer, least_coded_size}
 use Rattle.vc_defs.specs.Raw.{grey, yu12, nv12, yuyv, same_fourcc, layout_of, raw_size}
 use Rattle.vc_defs.specs.Laws.{IsRawFormat}
 use Rattle.vc_model.specs.Formats.{FormatPair, data_format, coded_format, frame_room}
@@ -40,11 +41,11 @@ HaveOneSize pair =
 -- a context of the kind can have these formats
 abbrev pub CanStand : Kind → FormatPair → Type 0
 CanStand Copy pair =
-    (pair.cap ≡ pair.out) × (1 ≤ pair.out.size) × (pair.out.size ≤ 17694720)
+    (pair.cap ≡ pair.out) × (1 ≤ pair.out.size) × (pair.out.size ≤ most_bytes)
     × (pair.out ≡ record { fourcc = data_format; width = 0; height = 0; size = pair.out.size })
 CanStand Enc pair =
     IsRawFormat pair.out × HaveOneSize pair
     × (pair.cap ≡ coded_format pair.out.width pair.out.height (frame_room (layout_of pair.out.fourcc) pair.out.width pair.out.height))
 CanStand Dec pair =
     IsRawFormat pair.cap × HaveOneSize pair
-    × (pair.out ≡ coded_format pair.cap.width pair.cap.height pair.out.size) × (64 ≤ pair.out.size) × (pair.out.size ≤ 17694764)
+    × (pair.out ≡ coded_format pair.cap.width pair.cap.height pair.out.size) × (least_coded_size ≤ pair.out.size) × (pair.out.size ≤ longest_buffer)

@@ -6,12 +6,14 @@ ghost use Rattle.std.specs.Prelude.{◌≡◌, ◌≤◌, ◌*◌, ◌∷◌, []
 ghost use Rattle.std.specs.List.{list_any};
 ghost use Rattle.vc_base.specs.declared.Kind.TheVariants.{Copy, Enc, Dec};
 ghost use Rattle.vc_base.specs.declared.Side.TheVariants.{Cap};
+ghost use Rattle.vc_base.specs.Limits.{most_bytes};
 ghost use Rattle.vc_defs.specs.Planes.{padded};
 ghost use Rattle.vc_defs.specs.Headers.{is_legal_geometry};
 ghost use Rattle.vc_defs.specs.Raw.{grey, yu12, nv12, yuyv, same_fourcc, layout_of, raw_formats, first_raw, raw_size};
 ghost use Rattle.vc_model.specs.Formats.{FormatPair, listed_or, raw_format, coded_format, frame_room, padded_samples, width_for, height_for, size_or, encoder_formats, decoder_formats, formats_at_open, formats_listed, formats_for, formats_found};
 ghost use Rattle.vc_geom.specs.Pairs.{pair_of, copied, is_raw, size_if_raw, IsSize, CanStand};
 
+use vc_base::limits::{LEAST_CODED_SIZE, LONGEST_BUFFER, MOST_BYTES, USUAL_SIZE};
 use vc_base::{Format, Fourcc, Kind, Side};
 use vc_defs::{Geometry, Layout};
 
@@ -227,7 +229,7 @@ fn coded_format(width: u32, height: u32, size: u32) -> Format
 /// The formats of a copying context whose buffers have a size.
 fn copy_formats(size: u32) -> Formats
     ensures formats { pair_of result ≡ copied size }
-    ensures stand { 1 ≤ size → size ≤ 17694720 → CanStand Copy (pair_of result) }
+    ensures stand { 1 ≤ size → size ≤ most_bytes → CanStand Copy (pair_of result) }
 {
     let format = Format {
         fourcc: DATA,
@@ -276,7 +278,7 @@ fn decoder_formats(want: &Format) -> Formats
     let height = height_for(Layout::C420, want.height);
     let size = size_or(want.size, frame_room(Layout::C422, width, height));
     Formats {
-        out: coded_format(width, height, size.clamp(64, 17_694_764)),
+        out: coded_format(width, height, size.clamp(LEAST_CODED_SIZE, LONGEST_BUFFER)),
         cap: raw_format(YU12, width, height),
     }
 }
@@ -287,7 +289,7 @@ pub fn open_formats(kind: Kind) -> Formats
     ensures stand { CanStand kind (pair_of result) }
 {
     match kind {
-        Kind::Copy => copy_formats(4096),
+        Kind::Copy => copy_formats(USUAL_SIZE),
         Kind::Enc => Formats {
             out: raw_format(YU12, 352, 288),
             cap: coded_format(352, 288, 152_108),
@@ -341,7 +343,9 @@ pub fn try_format(kind: Kind, side: Side, present: &Formats, want: &Format) -> F
     ensures stand { CanStand kind (pair_of result) }
 {
     match (kind, side) {
-        (Kind::Copy, Side::Out) => copy_formats(size_or(want.size, 4096).clamp(1, 17_694_720)),
+        (Kind::Copy, Side::Out) => copy_formats(size_or(want.size, USUAL_SIZE).clamp(
+            1, MOST_BYTES,
+        )),
         (Kind::Enc, Side::Out) => encoder_formats(want),
         (Kind::Dec, Side::Out) => decoder_formats(want),
         (Kind::Dec, Side::Cap) => raw_formats(present, want.fourcc),

@@ -30,7 +30,10 @@ unfolding jobs_of
 held_sound n next prev marks jobs h =
     subst (λ (m : ℕ). AreSlots (jobs_of m jobs.waiting)) (sym h.size) (ring_sound n next prev marks jobs.waiting h.held)
 
-pub held_appended : (n : ℕ) (next prev : List ℕ) (marks : List Bool) (jobs : Jobs) (slot last : ℕ) → Held n next prev marks jobs → slot < jobs.slots → waits jobs.waiting slot ≡ false → last ≡ get_or prev n last → Held n (set (set next last slot) slot n) (set (set prev slot last) n slot) (set marks slot true) (with_waiting jobs (jobs.waiting ++ slot ∷ []))
+pub held_appended :
+    (n : ℕ) (next prev : List ℕ) (marks : List Bool) (jobs : Jobs) (slot last : ℕ) → Held n next prev marks jobs → slot < jobs.slots
+    → waits jobs.waiting slot ≡ false → last ≡ get_or prev n last
+    → Held n (set (set next last slot) slot n) (set (set prev slot last) n slot) (set marks slot true) (with_waiting jobs (jobs.waiting ++ slot ∷ []))
 held_appended n next prev marks jobs slot last h low free is =
     record {
       size = h.size;
@@ -58,7 +61,10 @@ after_in n next prev marks jobs slot after h w is =
     let same : after ≡ get_or next slot 0 = get_or_read next slot after (slot_in n next prev marks jobs slot h w).0 is 0 in
     omega (arith, same, (nodes_of n next prev marks jobs.waiting slot h.held w).1.0, h.held.prev_size)
 
-pub held_removed : (n : ℕ) (next prev : List ℕ) (marks : List Bool) (jobs : Jobs) (slot before after : ℕ) → Held n next prev marks jobs → waits jobs.waiting slot ≡ true → before ≡ get_or prev slot before → after ≡ get_or next slot after → Held n (set next before after) (set prev after before) (set marks slot false) (with_waiting jobs (without jobs.waiting slot))
+pub held_removed :
+    (n : ℕ) (next prev : List ℕ) (marks : List Bool) (jobs : Jobs) (slot before after : ℕ) → Held n next prev marks jobs
+    → waits jobs.waiting slot ≡ true → before ≡ get_or prev slot before → after ≡ get_or next slot after
+    → Held n (set next before after) (set prev after before) (set marks slot false) (with_waiting jobs (without jobs.waiting slot))
 held_removed n next prev marks jobs slot before after h w is_before is_after =
     let sizes = slot_in n next prev marks jobs slot h w in
     record {
@@ -84,7 +90,9 @@ mark_contains xs slot b is =
 -- a number that is no slot's does not wait
 pub none_past : (n : ℕ) (next prev : List ℕ) (marks : List Bool) (jobs : Jobs) (slot : ℕ) → Held n next prev marks jobs → n ≤ slot → waits jobs.waiting slot ≡ false
 none_past n next prev marks jobs slot h far =
-    ⊎_elim (λ (w : waits jobs.waiting slot ≡ true). let low : slot < n = (nodes_of n next prev marks jobs.waiting slot h.held w).1.1 in absurd (omega arith)) (λ (w : waits jobs.waiting slot ≡ false). w) (true_or_false (waits jobs.waiting slot))
+    ⊎_elim
+    (λ (w : waits jobs.waiting slot ≡ true). let low : slot < n = (nodes_of n next prev marks jobs.waiting slot h.held w).1.1 in absurd (omega arith))
+    (λ (w : waits jobs.waiting slot ≡ false). w) (true_or_false (waits jobs.waiting slot))
   where
     true_or_false : (b : Bool) → (b ≡ true) ⊎ (b ≡ false)
     true_or_false true = inl refl

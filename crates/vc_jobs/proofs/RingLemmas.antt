@@ -1,5 +1,7 @@
 -- A ring of slots: what a write to one link leaves as it is, and what linking and unlinking a slot does.
-use Rattle.std.proofs.Common.{ℕ, zero, suc, ◌+◌, ◌≡◌, ◌≢◌, ◌<◌, ◌≤◌, Bool, eqb, true, false, Some, None, List, [], ◌∷◌, ◌++◌, length, get_or, set, replicate, take, drop, length-take, length-drop, get_or-take, get_or-drop, take-append-drop, refl, sym, ap, ◌∙◌, subst, ⊎_elim, arith, get_or-set_same, get_or-set_other, length-set}
+use Rattle.std.proofs.Common.{ℕ, zero, suc, ◌+◌, ◌≡◌, ◌≢◌, ◌<◌, ◌≤◌, Bool, eqb, true, false, Some, None, List, [], ◌∷◌, ◌++◌, length, get_or, set, replicate}
+use Rattle.std.proofs.Common.{take, drop, length-take, length-drop, get_or-take, get_or-drop, take-append-drop, refl, sym, ap, ◌∙◌, subst, ⊎_elim, arith}
+use Rattle.std.proofs.Common.{get_or-set_same, get_or-set_other, length-set}
 use Rattle.std.specs.Prelude.{All, Contains, ◌||◌}
 use Rattle.std.specs.List.{list_any}
 use Rattle.std.proofs.lemmas.Bool.{lt-ltb, le-ltb, ne_eqb, eqb-true, cases_eq, eq-eqb, false≢true, or_cases}
@@ -111,11 +113,14 @@ same_place n next prev xs v p (suc i) (suc j) hi hj e =
 
 any_below : (n : ℕ) (ys : List ℕ) (q : ℕ) → ((i : ℕ) → i < length ys → get_or ys i 0 < n) → list_any (eqb q) ys ≡ true → q < n
 any_below n [] q all found = absurd (false≢true found)
-any_below n (y ∷ ys) q all found = ⊎_elim (λ (e : eqb q y ≡ true). let same = eqb-true q y e in let low : y < n = all 0 (omega arith) in omega arith) (λ (e : list_any (eqb q) ys ≡ true). any_below n ys q (λ i h. all (suc i) (omega arith)) e) (or_cases (eqb q y) (list_any (eqb q) ys) found)
+any_below n (y ∷ ys) q all found =
+    ⊎_elim (λ (e : eqb q y ≡ true). let same = eqb-true q y e in let low : y < n = all 0 (omega arith) in omega arith)
+    (λ (e : list_any (eqb q) ys ≡ true). any_below n ys q (λ i h. all (suc i) (omega arith)) e) (or_cases (eqb q y) (list_any (eqb q) ys) found)
 
 apart_in_ring : (n : ℕ) (next prev xs : List ℕ) (v : ℕ) → Path n next prev n xs v → (i j d : ℕ) → i < j → j < length xs → eqb (get_or xs i d) (get_or xs j d) ≡ false
 apart_in_ring n next prev xs v p i j d lt hj =
-    ne_eqb _ _ (λ (e : get_or xs i d ≡ get_or xs j d). let hi : i < length xs = omega arith in let same = same_place n next prev xs v p i j hi hj (get_or_default xs i 0 d hi ∙ (e ∙ get_or_default xs j d 0 hj)) in absurd (omega (arith, same)))
+    ne_eqb _ _ (λ (e : get_or xs i d ≡ get_or xs j d).
+    let hi : i < length xs = omega arith in let same = same_place n next prev xs v p i j hi hj (get_or_default xs i 0 d hi ∙ (e ∙ get_or_default xs j d 0 hj)) in absurd (omega (arith, same)))
 
 -- so a ring has at most n slots
 ring_length : (n : ℕ) (next prev xs : List ℕ) (v : ℕ) → Path n next prev n xs v → length xs ≤ n
@@ -140,7 +145,10 @@ pub ring_kept : (n : ℕ) (next prev : List ℕ) (marks : List Bool) (xs : List 
 ring_kept n next prev marks xs r = rw (ring_is n next prev marks xs r) r
 
 -- a slot goes to the end of a path
-push_path : (n : ℕ) (next prev : List ℕ) (u : ℕ) (xs : List ℕ) (slot : ℕ) → length next ≡ n + 1 → length prev ≡ n + 1 → slot < n → u < n + 1 → u ≢ slot → Misses slot xs → Path n next prev u xs n → Path n (set (set next (get_or prev n 0) slot) slot n) (set (set prev slot (get_or prev n 0)) n slot) u (xs ++ slot ∷ []) n
+push_path :
+    (n : ℕ) (next prev : List ℕ) (u : ℕ) (xs : List ℕ) (slot : ℕ) → length next ≡ n + 1 → length prev ≡ n + 1 → slot < n → u < n + 1 → u ≢ slot
+    → Misses slot xs → Path n next prev u xs n
+    → Path n (set (set next (get_or prev n 0) slot) slot n) (set (set prev slot (get_or prev n 0)) n slot) u (xs ++ slot ∷ []) n
 unfolding Path Misses
 push_path n next prev u [] slot ln lp hc hu ne m p =
     let t = get_or prev n 0 in
@@ -184,10 +192,13 @@ waits_added (x ∷ xs) slot = rw (waits_added xs slot) (or_true (eqb x slot))
 -- the marks with one slot more
 marks_more : (n : ℕ) (marks : List Bool) (xs : List ℕ) (slot : ℕ) → length marks ≡ n → ((k : ℕ) → k < n → get_or marks k false ≡ waits xs k) → slot < n → (k : ℕ) → k < n → get_or (set marks slot true) k false ≡ waits (xs ++ slot ∷ []) k
 marks_more n marks xs slot size marked h k hk =
-    ⊎_elim (λ (e : k ≡ slot). rw e (get_or-set_same marks slot true false (omega arith) ∙ sym (waits_added xs slot))) (λ (ne : k ≢ slot). get_or-set_other marks slot k true false ne ∙ (marked k hk ∙ sym (waits_other xs slot k ne))) (cases_eq k slot)
+    ⊎_elim (λ (e : k ≡ slot). rw e (get_or-set_same marks slot true false (omega arith) ∙ sym (waits_added xs slot)))
+    (λ (ne : k ≢ slot). get_or-set_other marks slot k true false ne ∙ (marked k hk ∙ sym (waits_other xs slot k ne))) (cases_eq k slot)
 
 -- a slot goes to the end of the ring
-pub appended : (n : ℕ) (next prev : List ℕ) (marks : List Bool) (xs : List ℕ) (slot last : ℕ) → IsRing n next prev marks xs → slot < n → waits xs slot ≡ false → last ≡ get_or prev n 0 → IsRing n (set (set next last slot) slot n) (set (set prev slot last) n slot) (set marks slot true) (xs ++ slot ∷ [])
+pub appended :
+    (n : ℕ) (next prev : List ℕ) (marks : List Bool) (xs : List ℕ) (slot last : ℕ) → IsRing n next prev marks xs → slot < n → waits xs slot ≡ false
+    → last ≡ get_or prev n 0 → IsRing n (set (set next last slot) slot n) (set (set prev slot last) n slot) (set marks slot true) (xs ++ slot ∷ [])
 appended n next prev marks xs slot last r h free is =
     let miss = none_misses slot xs free in
     rw is record {
@@ -215,7 +226,11 @@ links_in n next prev u (x ∷ xs) slot ys v hu hv p =
     let low : x < n = p.1.1.0 in links_in n next prev x xs slot ys v (omega arith) hv p.1.1.1
 
 -- a path without one of its slots
-join_path : (n : ℕ) (next prev : List ℕ) (u : ℕ) (xs : List ℕ) (slot : ℕ) (ys : List ℕ) (v : ℕ) → length next ≡ n + 1 → length prev ≡ n + 1 → u < n + 1 → v < n + 1 → u ≢ slot → v ≢ slot → Misses slot xs → Misses slot ys → (get_or next (get_or prev slot 0) 0 ≡ slot) → (get_or prev (get_or next slot 0) 0 ≡ slot) → Path n next prev u (xs ++ slot ∷ ys) v → Path n (set next (get_or prev slot 0) (get_or next slot 0)) (set prev (get_or next slot 0) (get_or prev slot 0)) u (xs ++ ys) v
+join_path :
+    (n : ℕ) (next prev : List ℕ) (u : ℕ) (xs : List ℕ) (slot : ℕ) (ys : List ℕ) (v : ℕ) → length next ≡ n + 1 → length prev ≡ n + 1 → u < n + 1
+    → v < n + 1 → u ≢ slot → v ≢ slot → Misses slot xs → Misses slot ys → (get_or next (get_or prev slot 0) 0 ≡ slot)
+    → (get_or prev (get_or next slot 0) 0 ≡ slot) → Path n next prev u (xs ++ slot ∷ ys) v
+    → Path n (set next (get_or prev slot 0) (get_or next slot 0)) (set prev (get_or next slot 0) (get_or prev slot 0)) u (xs ++ ys) v
 unfolding Path Misses
 join_path n next prev u [] slot [] v ln lp hu hv nu nv mx my to fro p =
     let pu : get_or prev slot 0 ≡ u = p.1.0 in
@@ -254,7 +269,9 @@ cut_at xs i slot h e =
 without_other : (xs : List ℕ) (slot k : ℕ) → k ≢ slot → waits (without xs slot) k ≡ waits xs k
 without_other [] slot k ne = refl
 without_other (x ∷ xs) slot k ne =
-    ⊎_elim (λ (e : x ≡ slot). rw (eq-eqb x slot e) (without_other xs slot k ne ∙ sym (ap (λ b. b || waits xs k) (ne_eqb x k (λ (z : x ≡ k). ne (sym z ∙ e)))))) (λ (other : x ≢ slot). rw (ne_eqb x slot other) (ap (λ b. eqb x k || b) (without_other xs slot k ne))) (cases_eq x slot)
+    ⊎_elim
+    (λ (e : x ≡ slot). rw (eq-eqb x slot e) (without_other xs slot k ne ∙ sym (ap (λ b. b || waits xs k) (ne_eqb x k (λ (z : x ≡ k). ne (sym z ∙ e))))))
+    (λ (other : x ≢ slot). rw (ne_eqb x slot other) (ap (λ b. eqb x k || b) (without_other xs slot k ne))) (cases_eq x slot)
 
 pub without_itself : (xs : List ℕ) (slot : ℕ) → waits (without xs slot) slot ≡ false
 without_itself [] slot = refl
@@ -263,7 +280,8 @@ without_itself (x ∷ xs) slot =
 
 marks_less : (n : ℕ) (marks : List Bool) (xs : List ℕ) (slot : ℕ) → length marks ≡ n → ((k : ℕ) → k < n → get_or marks k false ≡ waits xs k) → slot < n → (k : ℕ) → k < n → get_or (set marks slot false) k false ≡ waits (without xs slot) k
 marks_less n marks xs slot size marked h k hk =
-    ⊎_elim (λ (e : k ≡ slot). rw e (get_or-set_same marks slot false false (omega arith) ∙ sym (without_itself xs slot))) (λ (ne : k ≢ slot). get_or-set_other marks slot k false false ne ∙ (marked k hk ∙ sym (without_other xs slot k ne))) (cases_eq k slot)
+    ⊎_elim (λ (e : k ≡ slot). rw e (get_or-set_same marks slot false false (omega arith) ∙ sym (without_itself xs slot)))
+    (λ (ne : k ≢ slot). get_or-set_other marks slot k false false ne ∙ (marked k hk ∙ sym (without_other xs slot k ne))) (cases_eq k slot)
 
 module _ (n : ℕ) (next prev : List ℕ) (marks : List Bool) (xs : List ℕ) (i slot : ℕ) (r : IsRing n next prev marks xs) (hi : i < length xs) (here : get_or xs i 0 ≡ slot) where
   path_cut : Path n next prev n (take i xs ++ slot ∷ drop (i + 1) xs) n
@@ -303,12 +321,18 @@ module _ (n : ℕ) (next prev : List ℕ) (marks : List Bool) (xs : List ℕ) (i
         next_size = length-set next (get_or prev slot 0) (get_or next slot 0) ∙ r.next_size;
         prev_size = length-set prev (get_or next slot 0) (get_or prev slot 0) ∙ r.prev_size;
         marks_size = length-set marks slot false ∙ r.marks_size;
-        path = rw without_slot (join_path n next prev n (take i xs) slot (drop (i + 1) xs) n r.next_size r.prev_size (omega arith) (omega arith) (λ (e : n ≡ slot). omega arith) (λ (e : n ≡ slot). omega arith) misses_before misses_after links.0 links.1 path_cut);
+        path =
+            rw without_slot
+            (join_path n next prev n (take i xs) slot (drop (i + 1) xs) n r.next_size r.prev_size (omega arith) (omega arith)
+            (λ (e : n ≡ slot). omega arith) (λ (e : n ≡ slot). omega arith) misses_before misses_after links.0 links.1 path_cut);
         marked = marks_less n marks xs slot r.marks_size r.marked low;
       }
 
 -- a slot that waits is taken out of the ring
-pub removed : (n : ℕ) (next prev : List ℕ) (marks : List Bool) (xs : List ℕ) (slot before after : ℕ) → IsRing n next prev marks xs → waits xs slot ≡ true → before ≡ get_or prev slot 0 → after ≡ get_or next slot 0 → IsRing n (set next before after) (set prev after before) (set marks slot false) (without xs slot)
+pub removed :
+    (n : ℕ) (next prev : List ℕ) (marks : List Bool) (xs : List ℕ) (slot before after : ℕ) → IsRing n next prev marks xs → waits xs slot ≡ true
+    → before ≡ get_or prev slot 0 → after ≡ get_or next slot 0
+    → IsRing n (set next before after) (set prev after before) (set marks slot false) (without xs slot)
 removed n next prev marks xs slot before after r w is_before is_after =
     let at = found_at slot xs w in
     rw (is_before, is_after) (ring_less n next prev marks xs at.0 slot r at.1 at.2)

@@ -94,7 +94,9 @@ first_cell next prev s [] hs h p = let e : get_or next s 0 ≡ s = p.0 in absurd
 first_cell next prev s (x ∷ xs) hs h p = (xs, ap (λ c. c ∷ xs) (sym p.0), rw p.0 p.1.1.1)
 
 pub spliced : (next prev : List ℕ) (lists : List (List ℕ)) (from to : ℕ) → length next ≡ 36 → length prev ≡ 36 → from < 4 → to < 4 → from ≢ to → get_or next (32 + from) 0 < 32 → AreRings next prev lists
-    → AreRings (set (set (set next (get_or prev (32 + to) 0) (get_or next (32 + from) 0)) (get_or prev (32 + from) 0) (32 + to)) (32 + from) (32 + from)) (set (set (set prev (get_or next (32 + from) 0) (get_or prev (32 + to) 0)) (32 + to) (get_or prev (32 + from) 0)) (32 + from) (32 + from)) (set (set lists to (list_at lists to ++ list_at lists from)) from [])
+    → AreRings (set (set (set next (get_or prev (32 + to) 0) (get_or next (32 + from) 0)) (get_or prev (32 + from) 0) (32 + to)) (32 + from) (32 + from))
+    (set (set (set prev (get_or next (32 + from) 0) (get_or prev (32 + to) 0)) (32 + to) (get_or prev (32 + from) 0)) (32 + from) (32 + from))
+    (set (set lists to (list_at lists to ++ list_at lists from)) from [])
 spliced next prev lists from to ln lp hf ht apart low r =
     let s = 32 + from in
     let t = 32 + to in
@@ -117,7 +119,11 @@ spliced next prev lists from to ln lp hf ht apart low r =
     rings_set new_next new_prev new_lists from [] (length-set lists to (list_at lists to ++ list_at lists from) ∙ r.four) hf
     (emptied next prev s t f end last (omega arith) (omega arith) (omega arith) (omega arith) away low ln lp fs es ls)
     (λ m hm n.
-    ⊎_elim (λ (e : m ≡ to). rw e (rw (get_or-set_same lists to (list_at lists to ++ list_at lists from) [] (omega (arith, r.four))) (subst (λ l. Path new_next new_prev t (list_at lists to ++ l) t) (sym cut.1) full))) (λ (d : m ≡ to → ⊥). rw (get_or-set_other lists to m (list_at lists to ++ list_at lists from) [] d) (beside next prev s t f end last (omega arith) (omega arith) (omega arith) (omega arith) away low ln lp fs es ls (32 + m) (omega arith) (λ (e : 32 + m ≡ s). n (omega arith)) (λ (e : 32 + m ≡ t). d (omega arith)) (list_at lists m) (r.ring m hm))) (cases_eq m to))
+    ⊎_elim (λ (e : m ≡ to). rw e
+    (rw (get_or-set_same lists to (list_at lists to ++ list_at lists from) [] (omega (arith, r.four))) (subst (λ l. Path new_next new_prev t (list_at lists to ++ l) t) (sym cut.1) full)))
+    (λ (d : m ≡ to → ⊥). rw (get_or-set_other lists to m (list_at lists to ++ list_at lists from) [] d)
+    (beside next prev s t f end last (omega arith) (omega arith) (omega arith) (omega arith) away low ln lp fs es ls (32 + m) (omega arith) (λ (e : 32 + m ≡ s). n (omega arith)) (λ (e : 32 + m ≡ t). d (omega arith)) (list_at lists m) (r.ring m hm)))
+    (cases_eq m to))
 
 -- an empty list adds nothing
 pub none_moved : (next prev : List ℕ) (lists : List (List ℕ)) (from to : ℕ) → from < 4 → AreRings next prev lists → 32 ≤ get_or next (32 + from) 0 → lists ≡ set (set lists to (list_at lists to ++ list_at lists from)) from []

@@ -1,15 +1,19 @@
 -- Two queues with a phase and a mark, and the rows of the table of calls that speak of these.
-use Rattle.std.specs.Prelude.{ℕ, ◌≡◌, Bool, true, false, not, ◌&&◌, if◌then◌else◌, nat_lt, ⊤, is_some, bit_or, Option, Some, None, List, [], ◌∷◌}
+use Rattle.std.specs.Prelude.{ℕ, Result, min, ◌≡◌, Bool, true, false, not, ◌&&◌, if◌then◌else◌, nat_lt, ⊤, is_some, bit_or, Option, Some, None, List, [], ◌∷◌}
 use Rattle.vc_base.specs.declared.Side.{Side}
 use Rattle.vc_base.specs.declared.Side.TheVariants.{Out, Cap}
 use Rattle.vc_base.specs.declared.Stamp.{Stamp}
 use Rattle.vc_base.specs.declared.Errno.{Errno}
 use Rattle.vc_base.specs.declared.Errno.TheVariants.{Busy, Inval}
-use Rattle.vc_base.specs.Buffers.{Buffer, QueueState, new_queue, is_empty, refuse_if, dqbuf_after, streamoff_after, long_enough, lend_after, retire_after, last_flag, zero_stamp}
+use Rattle.vc_base.specs.Buffers.{Buffer, QueueState, new_queue, is_empty, refuse_if, dqbuf_after, streamoff_after, long_enough, lend_after, retire_after}
+use Rattle.vc_base.specs.Buffers.{qbuf_after, reqbufs_refusal, reqbufs_after, create_refusal, create_after, created, buffer_count, zero_stamp}
+use Rattle.vc_base.specs.Limits.{last_flag, most_buffers}
 use Rattle.vc_model.specs.Context.{Cause, drain, change, PhaseState, run, owe, last, stopped, is_run, is_stopped, is_drain, is_drained}
 use Rattle.vc_model.specs.Answer.{without_drain_stop, mark_after_restart, start_is_early}
 use Rattle.vc_model.specs.Phases.{is_stopped_by_drain}
 use Rattle.vc_model.specs.Sound.{last_not_given}
+use Rattle.vc_queue.specs.Answers.{queued_bytes}
+use Rattle.vc_queue.specs.Growing.{AnswersWithMemory}
 use Rattle.vc_queue.specs.Holds.{HoldState, Fits}
 
 -- The queues, the phase and the mark of a context.
@@ -57,6 +61,22 @@ abbrev pub pair_off : PairState → Side → PairState
 pair_off p Out = record p { out = streamoff_after p.out; mark = None; phase = without_drain_stop p.phase }
 pair_off p Cap =
     if p.cap.streams then record p { cap = streamoff_after p.cap; mark = mark_after_restart p.phase p.mark; phase = run } else record p { cap = streamoff_after p.cap }
+
+-- QBuf
+
+abbrev pub pair_put : PairState → Side → ℕ → ℕ → Stamp → HoldState → PairState
+pair_put p side index used stamp hold =
+    with_queue_at p side (qbuf_after (queue_at p side) index used stamp (queued_bytes side hold index used))
+
+-- ReqBufs of a queue, with memory or without it
+abbrev pub MakesBuffers : QueueState → ℕ → ℕ → Result ℕ Errno → QueueState → Type 0
+MakesBuffers old count length result new =
+    AnswersWithMemory (reqbufs_refusal old) (min count most_buffers) (reqbufs_after old count length) result old new
+
+-- CreateBufs of a queue, with memory or without it
+abbrev pub AddsBuffers : QueueState → ℕ → ℕ → Result (ℕ × ℕ) Errno → QueueState → Type 0
+AddsBuffers old count length result new =
+    AnswersWithMemory (create_refusal old count length) (buffer_count old, created old count) (create_after old count length) result old new
 
 -- STOP and START
 

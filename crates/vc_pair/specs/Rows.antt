@@ -6,7 +6,8 @@ use Rattle.vc_base.specs.declared.Stamp.{Stamp}
 use Rattle.vc_base.specs.declared.Errno.{Errno}
 use Rattle.vc_base.specs.declared.Reply.{Reply}
 use Rattle.vc_base.specs.declared.Reply.TheVariants.{Done, Refused}
-use Rattle.vc_base.specs.Buffers.{Buffer, is_empty, dqbuf_after, keyframe_flag, pframe_flag, error_flag}
+use Rattle.vc_base.specs.Buffers.{Buffer, is_empty, dqbuf_after}
+use Rattle.vc_base.specs.Limits.{keyframe_flag, pframe_flag, error_flag}
 use Rattle.vc_model.specs.Context.{Context, drain, sizeimage, settle, queue_of, with_queue, raise_end}
 use Rattle.vc_model.specs.Answer.{Answer, after_taking, streamoff_effect, after_output_off, after_capture_off, stop_answer, start_answer}
 use Rattle.vc_model.specs.Runs.{stop_by_change, front_is_due, dest_done}

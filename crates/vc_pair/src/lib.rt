@@ -7,7 +7,8 @@
 
 ghost use Rattle.std.specs.Prelude.{◌≡◌, ◌≢◌, ◌<◌, ◌^◌, not, ◌&&◌, ◌||◌, ℕ, None, Some, List, [], ◌∷◌, take, bit_or, is_some, false, IsTrue, min, OnErr, ◌++◌};
 ghost use Rattle.vc_base.specs.declared.Side.TheVariants.{Out, Cap};
-ghost use Rattle.vc_base.specs.Buffers.{without_job_bytes, lend_after, give_back_after, retire_after, streamon_refusal, streamon_after, is_empty, buffer_count, most_buffers, qbuf_refusal, qbuf_after, dqbuf_refusal, reqbufs_refusal, reqbufs_after, create_refusal, created, create_after};
+ghost use Rattle.vc_base.specs.Buffers.{without_job_bytes, lend_after, give_back_after, retire_after, streamon_refusal, streamon_after, is_empty, buffer_count, qbuf_refusal, qbuf_after, dqbuf_refusal, reqbufs_refusal, reqbufs_after, create_refusal, created, create_after};
+ghost use Rattle.vc_base.specs.Limits.{most_buffers};
 ghost use Rattle.vc_model.specs.Context.{run, owe, last, stopped, is_run, is_stopped, is_drained, PhaseState};
 ghost use Rattle.vc_model.specs.Answer.{start_is_early, without_drain_stop, mark_after_restart};
 ghost use Rattle.vc_model.specs.Phases.{is_owed, is_stopped_by_drain};
@@ -16,7 +17,7 @@ ghost use Rattle.vc_queue.specs.Growing.{AnswersWithMemory, KeepsFirst};
 ghost use Rattle.vc_queue.specs.Holds.{HoldState, with_payload};
 ghost use Rattle.vc_queue.specs.Releasing.{AllGoToUser};
 ghost use Rattle.vc_queue.specs.Lending.{IsLentFrom, IsBack, back_bytes};
-ghost use Rattle.vc_pair.specs.Pairs.{PairState, new_pair, queue_at, with_queue_at, IsIdle, both_streaming, stop_refusal, pair_marked, start_refusal, pair_started, is_final, cap_retired, out_retired, pair_changed, owes_last, owing, given, gives_end, FitsBoth, is_ended_at, pair_at_last, pair_taken, pair_off, pair_settled, raises_end, is_due, IsSettled};
+ghost use Rattle.vc_pair.specs.Pairs.{PairState, new_pair, queue_at, with_queue_at, IsIdle, both_streaming, stop_refusal, pair_marked, start_refusal, pair_started, is_final, cap_retired, out_retired, pair_changed, owes_last, owing, given, gives_end, FitsBoth, is_ended_at, pair_at_last, pair_taken, pair_off, pair_put, MakesBuffers, AddsBuffers, pair_settled, raises_end, is_due, IsSettled};
 ghost use Rattle.vc_pair.specs.Phases.{phase_alone, phase_of};
 
 pub mod laws;
@@ -381,7 +382,7 @@ impl Pair {
         requires fit { FitsBoth self.old hold.old }
         requires counts { (queue_at self.old side).next_ordinal < 2 ^ 62 }
         ensures answer { result ≡ answer_of (qbuf_refusal (queue_at self.old side) index used least) tt }
-        ensures after { self.new ≡ after_of (qbuf_refusal (queue_at self.old side) index used least) self.old (with_queue_at self.old side (qbuf_after (queue_at self.old side) index used stamp (queued_bytes side hold.old index used))) }
+        ensures after { self.new ≡ after_of (qbuf_refusal (queue_at self.old side) index used least) self.old (pair_put self.old side index used stamp hold.old) }
         ensures payload { hold.new ≡ after_of (qbuf_refusal (queue_at self.old side) index used least) hold.old (with_payload hold.old side index None) }
         ensures fit { FitsBoth self.new hold.new }
     {
@@ -511,7 +512,7 @@ impl Pair {
         hold: &mut Hold,
     ) -> Result<u32, Errno>
         requires fit { FitsBoth self.old hold.old }
-        ensures answer { AnswersWithMemory (reqbufs_refusal (queue_at self.old side)) (min count most_buffers) (reqbufs_after (queue_at self.old side) count length) result (queue_at self.old side) (queue_at self.new side) }
+        ensures answer { MakesBuffers (queue_at self.old side) count length result (queue_at self.new side) }
         ensures rest { self.new ≡ with_queue_at self.old side (queue_at self.new side) }
         ensures other { KeepsFirst side 0 hold.old hold.new }
         ensures unchanged { OnErr result (hold.new ≡ hold.old) }
@@ -536,7 +537,7 @@ impl Pair {
         hold: &mut Hold,
     ) -> Result<(u32, u32), Errno>
         requires fit { FitsBoth self.old hold.old }
-        ensures answer { AnswersWithMemory (create_refusal (queue_at self.old side) count length) (buffer_count (queue_at self.old side), created (queue_at self.old side) count) (create_after (queue_at self.old side) count length) result (queue_at self.old side) (queue_at self.new side) }
+        ensures answer { AddsBuffers (queue_at self.old side) count length result (queue_at self.new side) }
         ensures rest { self.new ≡ with_queue_at self.old side (queue_at self.new side) }
         ensures kept { KeepsFirst side (buffer_count (queue_at self.old side)) hold.old hold.new }
         ensures unchanged { OnErr result (hold.new ≡ hold.old) }

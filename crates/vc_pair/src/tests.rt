@@ -34,9 +34,13 @@ fn job(rt: &impl Abort, pair: &mut Pair, hold: &Hold) -> bool
     ensures fit { FitsBoth pair.new hold.now }
 {
     assert!(rt; pair.front_due() && pair.phase() == Phase::Run);
-    assert!(rt; pair.queue(Side::Out).ready_len() > 0 && !pair.queue(Side::Out).is_lent());
+    assert!(rt;
+        pair.queue(Side::Out).front_ordinal().is_some() && !pair.queue(Side::Out).is_lent()
+    );
     let source = pair.lend(Side::Out);
-    assert!(rt; pair.queue(Side::Cap).ready_len() > 0 && !pair.queue(Side::Cap).is_lent());
+    assert!(rt;
+        pair.queue(Side::Cap).front_ordinal().is_some() && !pair.queue(Side::Cap).is_lent()
+    );
     let dest = pair.lend(Side::Cap);
     assert!(rt; pair.queue(Side::Out).retired() < 100);
     pair.retire_out(source, 0);

@@ -1,4 +1,5 @@
--- What the moves of a buffer between ready, the job and done leave as it is: the buffers that the user holds.
+-- The moves of a buffer between ready, the job and done leave the buffers that the user holds, so a hold that fits the queue
+-- goes on fitting it. Each changes other lists than the held one, which alone says what fits.
 use Rattle.std.proofs.Common.{ℕ, zero, suc, length, Option, None, ◌≡◌, List, replicate, [], ◌∷◌, refl, ap, ◌∙◌}
 use Rattle.std.specs.Option.{option_map}
 use Rattle.vc_base.specs.declared.Side.{Side}

@@ -5,7 +5,8 @@ use Rattle.vc_base.specs.declared.Side.{Side}
 use Rattle.vc_base.specs.declared.Side.TheVariants.{Out, Cap}
 use Rattle.vc_base.specs.declared.Errno.{Errno}
 use Rattle.vc_base.specs.declared.Errno.TheVariants.{NoMem}
-use Rattle.vc_base.specs.Buffers.{QueueState, buffer_count, new_buffers, longest_buffer, most_buffers, zero_stamp}
+use Rattle.vc_base.specs.Buffers.{QueueState, buffer_count, new_buffers, zero_stamp}
+use Rattle.vc_base.specs.Limits.{longest_buffer, most_buffers}
 use Rattle.vc_queue.specs.declared.cells.Place.TheVariants.{Held}
 use Rattle.vc_queue.specs.declared.cells.Cell.{Cell}
 use Rattle.vc_queue.specs.Cells.{cell_at}
@@ -36,10 +37,15 @@ pub record KeepsFirst (side : Side) (n : ℕ) (old new : HoldState) : Type 0 whe
   pub first : (i : ℕ) → i < n → held_payload new side i ≡ held_payload old side i
   pub other : side_of new (other_side side) ≡ side_of old (other_side side)
 
--- payloads of one size from a place on
+-- payloads of zeros, of one size, from an index on
 abbrev pub HasNew : ℕ → ℕ → ℕ → List (Option (List ℕ)) → Type 0
 HasNew first end size payloads =
-    (i : ℕ) → first ≤ i → i < end → option_map length (payload_at payloads i) ≡ Some size
+    (i : ℕ) → first ≤ i → i < end → payload_at payloads i ≡ Some (replicate size 0)
+
+-- the user holds payloads of zeros, of one size, of so many buffers from an index on
+abbrev pub AreZero : Side → ℕ → ℕ → ℕ → HoldState → Type 0
+AreZero side first number size hold =
+    (i : ℕ) → i < number → held_payload hold side (first + i) ≡ Some (replicate size 0)
 
 -- the cell of a new buffer
 abbrev pub new_cell : ℕ → Cell

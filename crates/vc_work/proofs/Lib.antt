@@ -1,2 +1,2 @@
-pub mod References
+pub mod AreasHoldPictures
 pub mod Streams

@@ -1,4 +1,5 @@
--- When what a decoder keeps belongs together.
+-- When what a decoder keeps belongs together. At the start nothing is kept, and a reference is made of a frame alone,
+-- whose geometry is that of the last change; so the picture is always of the stream's geometry.
 use Rattle.std.proofs.Common.{ℕ, zero, suc, ◌≡◌, ◌∙◌, sym, ap, refl, subst, Bool, true, false, ◌&&◌, List, [], ◌∷◌, ◌++◌, take}
 use Rattle.std.specs.Prelude.{not}
 use Rattle.std.specs.declared.option.Option.{Option}
@@ -9,8 +10,8 @@ use Rattle.vc_defs.specs.declared.Header.{Header}
 use Rattle.vc_defs.specs.Places.{Frame, OpenFrame, places}
 use Rattle.vc_defs.specs.Decoder.{ReferenceState, BetweenFrames, GivenResult, is_present, is_change, is_passed_over, picture_planes, present_after_header, given_at_header, given_by, given_at_end, given_then, given_in_frames, given_in, present_after}
 use Rattle.vc_defs.specs.Laws.{from_start, present_at}
-use Rattle.vc_defs.proofs.Waiting.{begins_fresh, geometry_same}
-use Rattle.vc_resync.proofs.Decoding as resync
+use Rattle.vc_defs.proofs.StateBetweenRuns.{begins_fresh, geometry_same}
+use Rattle.vc_resync.proofs.RunsAreFeeds as resync
 use Rattle.vc_work.specs.Streams.{BeginsInStep, KeepsGeometry}
 
 pub begins_in_step : BeginsInStep

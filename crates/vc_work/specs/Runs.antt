@@ -1,6 +1,7 @@
 -- What a run does, by the table of runs of docs/DEVICE.md.
 use Rattle.std.specs.Prelude.{ℕ, ◌≡◌, ◌≤◌, ◌+◌, ◌++◌, Bool, true, length, take, drop, min, vec_len, Option, Some, None, IsTrue, is_some, List}
 use Rattle.std.specs.Option.{option_map}
+use Rattle.vc_base.specs.Limits.{header_size}
 use Rattle.vc_base.specs.declared.Format.{Format}
 use Rattle.vc_defs.specs.declared.Geometry.{Geometry}
 use Rattle.vc_defs.specs.Bodies.{padded_sum}
@@ -47,7 +48,7 @@ HasReference format (Some r) = (format.size ≤ r.size) × HasGeometry (geometry
 pub record HasPicture (w : Work) : Type 0 where
   pub format : IsRawFormat w.format
   pub whole : w.source.used ≡ w.format.size
-  pub dest : HasDest (44 + padded_sum (geometry_of w.format)) (dest_bytes w)
+  pub dest : HasDest (header_size + padded_sum (geometry_of w.format)) (dest_bytes w)
   pub reference : HasReference w.format w.reference
   pub rates : AreRates (run_rates w.rates)
 

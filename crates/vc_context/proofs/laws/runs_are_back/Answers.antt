@@ -1,4 +1,4 @@
-use Rattle.vc_context.proofs.Running.{runs_are_back}
+use Rattle.vc_context.proofs.RunsAreResults.{runs_are_back}
 use Rattle.vc_context.proofs.laws.runs_are_back.Goals as goal
 
 pub returns : goal.returns

@@ -1,4 +1,4 @@
-use Rattle.vc_core.proofs.Fitting.{fits_written}
+use Rattle.vc_core.proofs.WrittenHoldsFit.{fits_written}
 use Rattle.vc_core.proofs.laws.writing_fits.Goals as goal
 
 pub returns : goal.returns

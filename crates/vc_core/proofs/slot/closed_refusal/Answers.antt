@@ -1,5 +1,5 @@
 use Rattle.std.proofs.Common.{sym, ◌∙◌}
-use Rattle.vc_core.proofs.Refusing.{opened_before, closed_before}
+use Rattle.vc_core.proofs.BeforeMemory.{opened_before, closed_before}
 use Rattle.vc_core.proofs.slot.closed_refusal.Goals as goal
 
 pub returns-in-Some : goal.returns-in-Some

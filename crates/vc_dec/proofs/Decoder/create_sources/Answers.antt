@@ -4,34 +4,82 @@ use Rattle.std.specs.Prelude.{◌==◌, ◌&&◌, nat_lt}
 use Rattle.vc_dec.specs.Parts.{new_assembly}
 use Rattle.vc_base.specs.declared.Reply.TheVariants.{Refused}
 use Rattle.vc_base.specs.Buffers.{QueueState, buffer_count, create_refusal}
-use Rattle.vc_dec.proofs.Made.{no_refusal, unmade_out}
-use Rattle.vc_dec.proofs.Creating.{sources_gives, sources_steps, sources_keeps, none_gives}
-use Rattle.vc_dec.proofs.Requesting.{same_steps, same_keeps}
+use Rattle.vc_dec.proofs.BuffersAreMade.{no_refusal, unmade_out}
+use Rattle.vc_dec.proofs.AddedBuffers.{sources_gives, sources_steps, sources_keeps, none_gives}
+use Rattle.vc_dec.proofs.NewBuffers.{same_steps, same_keeps}
 use Rattle.vc_dec.proofs.Decoder.create_sources.Goals as goal
 
 pub returns-in_default-create-clause-answers : goal.returns-in_default-create-clause-answers
 returns-in_default-create-clause-answers c =
-    rw c.no_memory-in_default-create.ensures (none_gives c.self.inside c.args.self.now c.self.view_is c.self.invariant c.args.count c.args.length c.create.new.self c.self.inside.codec.state (no_refusal (create_refusal c.self.inside.pair.out c.args.count c.args.length) c.create_refusal.result (c.create_refusal.ensures ∙ ap (λ (q : QueueState). option_map Refused (create_refusal q c.args.count c.args.length)) c.queue.ensures) c.in_default.is) (unmade_out c.self.inside.pair c.create.new.self _ _ _ _ c.in_default-create.ensures.answer (no_refusal (create_refusal c.self.inside.pair.out c.args.count c.args.length) c.create_refusal.result (c.create_refusal.ensures ∙ ap (λ (q : QueueState). option_map Refused (create_refusal q c.args.count c.args.length)) c.queue.ensures) c.in_default.is) c.in_default-create.ensures.rest) refl)
+    rw c.no_memory-in_default-create.ensures
+    (none_gives c.self.inside c.args.self.now c.self.view_is c.self.invariant c.args.count c.args.length c.create.new.self c.self.inside.codec.state
+    (no_refusal (create_refusal c.self.inside.m2m.pair.out c.args.count c.args.length) c.create_refusal.result
+    (c.create_refusal.ensures ∙ ap (λ (q : QueueState). option_map Refused (create_refusal q c.args.count c.args.length)) c.queue.ensures)
+    c.in_default.is)
+    (unmade_out c.self.inside.m2m.pair c.create.new.self _ _ _ _ c.in_default-create.ensures.answer
+    (no_refusal (create_refusal c.self.inside.m2m.pair.out c.args.count c.args.length) c.create_refusal.result
+    (c.create_refusal.ensures ∙ ap (λ (q : QueueState). option_map Refused (create_refusal q c.args.count c.args.length)) c.queue.ensures)
+    c.in_default.is)
+    c.in_default-create.ensures.rest)
+    refl)
 
 pub returns-in_default-create-clause-step : goal.returns-in_default-create-clause-step
 returns-in_default-create-clause-step c =
-    same_steps c.self.inside c.args.self.now c.self.view_is c.self.invariant c.create.new.self c.self.inside.codec.state (unmade_out c.self.inside.pair c.create.new.self _ _ _ _ c.in_default-create.ensures.answer (no_refusal (create_refusal c.self.inside.pair.out c.args.count c.args.length) c.create_refusal.result (c.create_refusal.ensures ∙ ap (λ (q : QueueState). option_map Refused (create_refusal q c.args.count c.args.length)) c.queue.ensures) c.in_default.is) c.in_default-create.ensures.rest) refl c.requires.kept
+    same_steps c.self.inside c.args.self.now c.self.view_is c.self.invariant c.create.new.self c.self.inside.codec.state
+    (unmade_out c.self.inside.m2m.pair c.create.new.self _ _ _ _ c.in_default-create.ensures.answer
+    (no_refusal (create_refusal c.self.inside.m2m.pair.out c.args.count c.args.length) c.create_refusal.result
+    (c.create_refusal.ensures ∙ ap (λ (q : QueueState). option_map Refused (create_refusal q c.args.count c.args.length)) c.queue.ensures)
+    c.in_default.is)
+    c.in_default-create.ensures.rest)
+    refl c.requires.kept
 
 pub invariant_of-self : goal.invariant_of-self
 invariant_of-self c =
-    same_keeps c.self.inside c.args.self.now c.self.view_is c.self.invariant c.create.new.self (unmade_out c.self.inside.pair c.create.new.self _ _ _ _ c.in_default-create.ensures.answer (no_refusal (create_refusal c.self.inside.pair.out c.args.count c.args.length) c.create_refusal.result (c.create_refusal.ensures ∙ ap (λ (q : QueueState). option_map Refused (create_refusal q c.args.count c.args.length)) c.queue.ensures) c.in_default.is) c.in_default-create.ensures.rest)
+    same_keeps c.self.inside c.args.self.now c.self.view_is c.self.invariant c.create.new.self
+    (unmade_out c.self.inside.m2m.pair c.create.new.self _ _ _ _ c.in_default-create.ensures.answer
+    (no_refusal (create_refusal c.self.inside.m2m.pair.out c.args.count c.args.length) c.create_refusal.result
+    (c.create_refusal.ensures ∙ ap (λ (q : QueueState). option_map Refused (create_refusal q c.args.count c.args.length)) c.queue.ensures)
+    c.in_default.is)
+    c.in_default-create.ensures.rest)
 
 pub invariant_of-self-2 : goal.invariant_of-self-2
 invariant_of-self-2 c =
-    sources_keeps c.self.inside c.args.self.now c.self.view_is c.self.invariant c.args.count c.args.length c.in-Ok-create.index c.in-Ok-create.count c.create.new.self c.settle.new.pair c.settle.new.events c.supply.new.self c.in-Ok.assembly (no_refusal (create_refusal c.self.inside.pair.out c.args.count c.args.length) c.create_refusal.result (c.create_refusal.ensures ∙ ap (λ (q : QueueState). option_map Refused (create_refusal q c.args.count c.args.length)) c.queue.ensures) c.in_default.is) c.in-Ok-create.ensures.answer c.in-Ok-create.ensures.rest (c.in-Ok.ensures ∙ ap (λ b. new_assembly b c.self.inside.formats.out.size) (c.are_first-first.ensures ∙ ap (λ n. (n == 0) && nat_lt 0 c.args.count) (c.buffers.ensures.number ∙ ap buffer_count c.queue-2.ensures))) c.supply.ensures c.settle.ensures.queues c.settle.ensures.told
+    sources_keeps c.self.inside c.args.self.now c.self.view_is c.self.invariant c.args.count c.args.length c.in-Ok-create.index c.in-Ok-create.count
+    c.create.new.self c.settle.new.pair c.settle.new.events c.supply.new.self c.in-Ok.assembly
+    (no_refusal (create_refusal c.self.inside.m2m.pair.out c.args.count c.args.length) c.create_refusal.result
+    (c.create_refusal.ensures ∙ ap (λ (q : QueueState). option_map Refused (create_refusal q c.args.count c.args.length)) c.queue.ensures)
+    c.in_default.is)
+    c.in-Ok-create.ensures.answer c.in-Ok-create.ensures.rest
+    (c.in-Ok.ensures
+    ∙ ap (λ b. new_assembly b c.self.inside.m2m.formats.out.size)
+    (c.are_first-first.ensures ∙ ap (λ n. (n == 0) && nat_lt 0 c.args.count) (c.buffers.ensures.number ∙ ap buffer_count c.queue-2.ensures)))
+    c.supply.ensures c.settle.ensures.queues c.settle.ensures.told
 
 pub returns-clause-answers : goal.returns-clause-answers
 returns-clause-answers c =
-    sources_gives c.self.inside c.args.self.now c.self.view_is c.self.invariant c.args.count c.args.length c.in-Ok-create.index c.in-Ok-create.count c.create.new.self c.settle.new.pair c.settle.new.events c.supply.new.self c.in-Ok.assembly (no_refusal (create_refusal c.self.inside.pair.out c.args.count c.args.length) c.create_refusal.result (c.create_refusal.ensures ∙ ap (λ (q : QueueState). option_map Refused (create_refusal q c.args.count c.args.length)) c.queue.ensures) c.in_default.is) c.in-Ok-create.ensures.answer c.in-Ok-create.ensures.rest (c.in-Ok.ensures ∙ ap (λ b. new_assembly b c.self.inside.formats.out.size) (c.are_first-first.ensures ∙ ap (λ n. (n == 0) && nat_lt 0 c.args.count) (c.buffers.ensures.number ∙ ap buffer_count c.queue-2.ensures))) c.supply.ensures c.settle.ensures.queues c.settle.ensures.told
+    sources_gives c.self.inside c.args.self.now c.self.view_is c.self.invariant c.args.count c.args.length c.in-Ok-create.index c.in-Ok-create.count
+    c.create.new.self c.settle.new.pair c.settle.new.events c.supply.new.self c.in-Ok.assembly
+    (no_refusal (create_refusal c.self.inside.m2m.pair.out c.args.count c.args.length) c.create_refusal.result
+    (c.create_refusal.ensures ∙ ap (λ (q : QueueState). option_map Refused (create_refusal q c.args.count c.args.length)) c.queue.ensures)
+    c.in_default.is)
+    c.in-Ok-create.ensures.answer c.in-Ok-create.ensures.rest
+    (c.in-Ok.ensures
+    ∙ ap (λ b. new_assembly b c.self.inside.m2m.formats.out.size)
+    (c.are_first-first.ensures ∙ ap (λ n. (n == 0) && nat_lt 0 c.args.count) (c.buffers.ensures.number ∙ ap buffer_count c.queue-2.ensures)))
+    c.supply.ensures c.settle.ensures.queues c.settle.ensures.told
 
 pub returns-clause-step : goal.returns-clause-step
 returns-clause-step c =
-    sources_steps c.self.inside c.args.self.now c.self.view_is c.self.invariant c.args.count c.args.length c.in-Ok-create.index c.in-Ok-create.count c.create.new.self c.settle.new.pair c.settle.new.events c.supply.new.self c.in-Ok.assembly (no_refusal (create_refusal c.self.inside.pair.out c.args.count c.args.length) c.create_refusal.result (c.create_refusal.ensures ∙ ap (λ (q : QueueState). option_map Refused (create_refusal q c.args.count c.args.length)) c.queue.ensures) c.in_default.is) c.in-Ok-create.ensures.answer c.in-Ok-create.ensures.rest (c.in-Ok.ensures ∙ ap (λ b. new_assembly b c.self.inside.formats.out.size) (c.are_first-first.ensures ∙ ap (λ n. (n == 0) && nat_lt 0 c.args.count) (c.buffers.ensures.number ∙ ap buffer_count c.queue-2.ensures))) c.supply.ensures c.settle.ensures.queues c.settle.ensures.told c.requires.kept
+    sources_steps c.self.inside c.args.self.now c.self.view_is c.self.invariant c.args.count c.args.length c.in-Ok-create.index c.in-Ok-create.count
+    c.create.new.self c.settle.new.pair c.settle.new.events c.supply.new.self c.in-Ok.assembly
+    (no_refusal (create_refusal c.self.inside.m2m.pair.out c.args.count c.args.length) c.create_refusal.result
+    (c.create_refusal.ensures ∙ ap (λ (q : QueueState). option_map Refused (create_refusal q c.args.count c.args.length)) c.queue.ensures)
+    c.in_default.is)
+    c.in-Ok-create.ensures.answer c.in-Ok-create.ensures.rest
+    (c.in-Ok.ensures
+    ∙ ap (λ b. new_assembly b c.self.inside.m2m.formats.out.size)
+    (c.are_first-first.ensures ∙ ap (λ n. (n == 0) && nat_lt 0 c.args.count) (c.buffers.ensures.number ∙ ap buffer_count c.queue-2.ensures)))
+    c.supply.ensures c.settle.ensures.queues c.settle.ensures.told c.requires.kept
 
 pub returns-clause-fit : goal.returns-clause-fit
 returns-clause-fit c =

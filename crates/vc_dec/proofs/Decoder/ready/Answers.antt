@@ -1,4 +1,4 @@
-use Rattle.vc_dec.proofs.Answered.{ready_then, ready_else}
+use Rattle.vc_dec.proofs.AnswersByKind.{ready_then, ready_else}
 use Rattle.vc_dec.proofs.Decoder.ready.Goals as goal
 
 pub returns-then-may_run : goal.returns-then-may_run

@@ -2,13 +2,17 @@ use Rattle.std.proofs.Common.{ap, ◌∙◌}
 use Rattle.std.specs.Option.{option_map}
 use Rattle.vc_base.specs.declared.Reply.TheVariants.{Refused}
 use Rattle.vc_base.specs.Buffers.{QueueState, reqbufs_refusal}
-use Rattle.vc_dec.proofs.Made.{no_refusal, unmade_cap}
-use Rattle.vc_dec.proofs.Requesting.{dests_gives, dests_steps, dests_keeps, same_keeps, can_take_over}
+use Rattle.vc_dec.proofs.BuffersAreMade.{no_refusal, unmade_cap}
+use Rattle.vc_dec.proofs.NewBuffers.{dests_gives, dests_steps, dests_keeps, same_keeps, can_take_over}
 use Rattle.vc_dec.proofs.Decoder.request_dests.Goals as goal
 
 pub invariant_of-self : goal.invariant_of-self
 invariant_of-self c =
-    same_keeps c.self.inside c.args.self.now c.self.view_is c.self.invariant c.reqbufs.new.self (unmade_cap c.self.inside.pair c.reqbufs.new.self _ _ _ _ c.in_default-reqbufs.ensures.answer (no_refusal (reqbufs_refusal c.self.inside.pair.cap) c.reqbufs_refusal.result (c.reqbufs_refusal.ensures ∙ ap (λ (q : QueueState). option_map Refused (reqbufs_refusal q)) c.queue.ensures) c.in_default.is) c.in_default-reqbufs.ensures.rest)
+    same_keeps c.self.inside c.args.self.now c.self.view_is c.self.invariant c.reqbufs.new.self
+    (unmade_cap c.self.inside.m2m.pair c.reqbufs.new.self _ _ _ _ c.in_default-reqbufs.ensures.answer
+    (no_refusal (reqbufs_refusal c.self.inside.m2m.pair.cap) c.reqbufs_refusal.result
+    (c.reqbufs_refusal.ensures ∙ ap (λ (q : QueueState). option_map Refused (reqbufs_refusal q)) c.queue.ensures) c.in_default.is)
+    c.in_default-reqbufs.ensures.rest)
 
 pub replace-requires : goal.replace-requires
 replace-requires c =
@@ -16,15 +20,28 @@ replace-requires c =
 
 pub invariant_of-self-2 : goal.invariant_of-self-2
 invariant_of-self-2 c =
-    dests_keeps c.self.inside c.args.self.now c.self.view_is c.self.invariant c.args.count c.in-Ok-reqbufs.count c.reqbufs.new.self c.settle.new.pair c.settle.new.events c.replace.new.self c.in-Ok.reference (no_refusal (reqbufs_refusal c.self.inside.pair.cap) c.reqbufs_refusal.result (c.reqbufs_refusal.ensures ∙ ap (λ (q : QueueState). option_map Refused (reqbufs_refusal q)) c.queue.ensures) c.in_default.is) c.in-Ok-reqbufs.ensures.answer c.in-Ok-reqbufs.ensures.rest c.in-Ok.ensures c.replace.ensures c.settle.ensures.queues c.settle.ensures.told
+    dests_keeps c.self.inside c.args.self.now c.self.view_is c.self.invariant c.args.count c.in-Ok-reqbufs.count c.reqbufs.new.self c.settle.new.pair
+    c.settle.new.events c.replace.new.self c.in-Ok.reference
+    (no_refusal (reqbufs_refusal c.self.inside.m2m.pair.cap) c.reqbufs_refusal.result
+    (c.reqbufs_refusal.ensures ∙ ap (λ (q : QueueState). option_map Refused (reqbufs_refusal q)) c.queue.ensures) c.in_default.is)
+    c.in-Ok-reqbufs.ensures.answer c.in-Ok-reqbufs.ensures.rest c.in-Ok.ensures c.replace.ensures c.settle.ensures.queues c.settle.ensures.told
 
 pub returns-clause-answers : goal.returns-clause-answers
 returns-clause-answers c =
-    dests_gives c.self.inside c.args.self.now c.self.view_is c.self.invariant c.args.count c.in-Ok-reqbufs.count c.reqbufs.new.self c.settle.new.pair c.settle.new.events c.replace.new.self c.in-Ok.reference (no_refusal (reqbufs_refusal c.self.inside.pair.cap) c.reqbufs_refusal.result (c.reqbufs_refusal.ensures ∙ ap (λ (q : QueueState). option_map Refused (reqbufs_refusal q)) c.queue.ensures) c.in_default.is) c.in-Ok-reqbufs.ensures.answer c.in-Ok-reqbufs.ensures.rest c.in-Ok.ensures c.replace.ensures c.settle.ensures.queues c.settle.ensures.told
+    dests_gives c.self.inside c.args.self.now c.self.view_is c.self.invariant c.args.count c.in-Ok-reqbufs.count c.reqbufs.new.self c.settle.new.pair
+    c.settle.new.events c.replace.new.self c.in-Ok.reference
+    (no_refusal (reqbufs_refusal c.self.inside.m2m.pair.cap) c.reqbufs_refusal.result
+    (c.reqbufs_refusal.ensures ∙ ap (λ (q : QueueState). option_map Refused (reqbufs_refusal q)) c.queue.ensures) c.in_default.is)
+    c.in-Ok-reqbufs.ensures.answer c.in-Ok-reqbufs.ensures.rest c.in-Ok.ensures c.replace.ensures c.settle.ensures.queues c.settle.ensures.told
 
 pub returns-clause-step : goal.returns-clause-step
 returns-clause-step c =
-    dests_steps c.self.inside c.args.self.now c.self.view_is c.self.invariant c.args.count c.in-Ok-reqbufs.count c.reqbufs.new.self c.settle.new.pair c.settle.new.events c.replace.new.self c.in-Ok.reference (no_refusal (reqbufs_refusal c.self.inside.pair.cap) c.reqbufs_refusal.result (c.reqbufs_refusal.ensures ∙ ap (λ (q : QueueState). option_map Refused (reqbufs_refusal q)) c.queue.ensures) c.in_default.is) c.in-Ok-reqbufs.ensures.answer c.in-Ok-reqbufs.ensures.rest c.in-Ok.ensures c.replace.ensures c.settle.ensures.queues c.settle.ensures.told c.requires.kept
+    dests_steps c.self.inside c.args.self.now c.self.view_is c.self.invariant c.args.count c.in-Ok-reqbufs.count c.reqbufs.new.self c.settle.new.pair
+    c.settle.new.events c.replace.new.self c.in-Ok.reference
+    (no_refusal (reqbufs_refusal c.self.inside.m2m.pair.cap) c.reqbufs_refusal.result
+    (c.reqbufs_refusal.ensures ∙ ap (λ (q : QueueState). option_map Refused (reqbufs_refusal q)) c.queue.ensures) c.in_default.is)
+    c.in-Ok-reqbufs.ensures.answer c.in-Ok-reqbufs.ensures.rest c.in-Ok.ensures c.replace.ensures c.settle.ensures.queues c.settle.ensures.told
+    c.requires.kept
 
 pub returns-clause-fit : goal.returns-clause-fit
 returns-clause-fit c =

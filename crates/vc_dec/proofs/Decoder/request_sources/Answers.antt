@@ -2,29 +2,51 @@ use Rattle.std.proofs.Common.{refl, ap, ◌∙◌}
 use Rattle.std.specs.Option.{option_map}
 use Rattle.vc_base.specs.declared.Reply.TheVariants.{Refused}
 use Rattle.vc_base.specs.Buffers.{QueueState, reqbufs_refusal}
-use Rattle.vc_dec.proofs.Made.{no_refusal, unmade_out}
-use Rattle.vc_dec.proofs.Requesting.{sources_gives, sources_steps, sources_keeps, same_steps, same_keeps}
+use Rattle.vc_dec.proofs.BuffersAreMade.{no_refusal, unmade_out}
+use Rattle.vc_dec.proofs.NewBuffers.{sources_gives, sources_steps, sources_keeps, same_steps, same_keeps}
 use Rattle.vc_dec.proofs.Decoder.request_sources.Goals as goal
 
 pub returns-in_default-reqbufs-clause-step : goal.returns-in_default-reqbufs-clause-step
 returns-in_default-reqbufs-clause-step c =
-    same_steps c.self.inside c.args.self.now c.self.view_is c.self.invariant c.reqbufs.new.self c.self.inside.codec.state (unmade_out c.self.inside.pair c.reqbufs.new.self _ _ _ _ c.in_default-reqbufs.ensures.answer (no_refusal (reqbufs_refusal c.self.inside.pair.out) c.reqbufs_refusal.result (c.reqbufs_refusal.ensures ∙ ap (λ (q : QueueState). option_map Refused (reqbufs_refusal q)) c.queue.ensures) c.in_default.is) c.in_default-reqbufs.ensures.rest) refl c.requires.kept
+    same_steps c.self.inside c.args.self.now c.self.view_is c.self.invariant c.reqbufs.new.self c.self.inside.codec.state
+    (unmade_out c.self.inside.m2m.pair c.reqbufs.new.self _ _ _ _ c.in_default-reqbufs.ensures.answer
+    (no_refusal (reqbufs_refusal c.self.inside.m2m.pair.out) c.reqbufs_refusal.result
+    (c.reqbufs_refusal.ensures ∙ ap (λ (q : QueueState). option_map Refused (reqbufs_refusal q)) c.queue.ensures) c.in_default.is)
+    c.in_default-reqbufs.ensures.rest)
+    refl c.requires.kept
 
 pub invariant_of-self : goal.invariant_of-self
 invariant_of-self c =
-    same_keeps c.self.inside c.args.self.now c.self.view_is c.self.invariant c.reqbufs.new.self (unmade_out c.self.inside.pair c.reqbufs.new.self _ _ _ _ c.in_default-reqbufs.ensures.answer (no_refusal (reqbufs_refusal c.self.inside.pair.out) c.reqbufs_refusal.result (c.reqbufs_refusal.ensures ∙ ap (λ (q : QueueState). option_map Refused (reqbufs_refusal q)) c.queue.ensures) c.in_default.is) c.in_default-reqbufs.ensures.rest)
+    same_keeps c.self.inside c.args.self.now c.self.view_is c.self.invariant c.reqbufs.new.self
+    (unmade_out c.self.inside.m2m.pair c.reqbufs.new.self _ _ _ _ c.in_default-reqbufs.ensures.answer
+    (no_refusal (reqbufs_refusal c.self.inside.m2m.pair.out) c.reqbufs_refusal.result
+    (c.reqbufs_refusal.ensures ∙ ap (λ (q : QueueState). option_map Refused (reqbufs_refusal q)) c.queue.ensures) c.in_default.is)
+    c.in_default-reqbufs.ensures.rest)
 
 pub invariant_of-self-2 : goal.invariant_of-self-2
 invariant_of-self-2 c =
-    sources_keeps c.self.inside c.args.self.now c.self.view_is c.self.invariant c.args.count c.in-Ok-reqbufs.count c.reqbufs.new.self c.settle.new.pair c.settle.new.events c.begin.new.self c.in-Ok.assembly (no_refusal (reqbufs_refusal c.self.inside.pair.out) c.reqbufs_refusal.result (c.reqbufs_refusal.ensures ∙ ap (λ (q : QueueState). option_map Refused (reqbufs_refusal q)) c.queue.ensures) c.in_default.is) c.in-Ok-reqbufs.ensures.answer c.in-Ok-reqbufs.ensures.rest c.in-Ok.ensures c.begin.ensures c.settle.ensures.queues c.settle.ensures.told
+    sources_keeps c.self.inside c.args.self.now c.self.view_is c.self.invariant c.args.count c.in-Ok-reqbufs.count c.reqbufs.new.self
+    c.settle.new.pair c.settle.new.events c.begin.new.self c.in-Ok.assembly
+    (no_refusal (reqbufs_refusal c.self.inside.m2m.pair.out) c.reqbufs_refusal.result
+    (c.reqbufs_refusal.ensures ∙ ap (λ (q : QueueState). option_map Refused (reqbufs_refusal q)) c.queue.ensures) c.in_default.is)
+    c.in-Ok-reqbufs.ensures.answer c.in-Ok-reqbufs.ensures.rest c.in-Ok.ensures c.begin.ensures c.settle.ensures.queues c.settle.ensures.told
 
 pub returns-clause-answers : goal.returns-clause-answers
 returns-clause-answers c =
-    sources_gives c.self.inside c.args.self.now c.self.view_is c.self.invariant c.args.count c.in-Ok-reqbufs.count c.reqbufs.new.self c.settle.new.pair c.settle.new.events c.begin.new.self c.in-Ok.assembly (no_refusal (reqbufs_refusal c.self.inside.pair.out) c.reqbufs_refusal.result (c.reqbufs_refusal.ensures ∙ ap (λ (q : QueueState). option_map Refused (reqbufs_refusal q)) c.queue.ensures) c.in_default.is) c.in-Ok-reqbufs.ensures.answer c.in-Ok-reqbufs.ensures.rest c.in-Ok.ensures c.begin.ensures c.settle.ensures.queues c.settle.ensures.told
+    sources_gives c.self.inside c.args.self.now c.self.view_is c.self.invariant c.args.count c.in-Ok-reqbufs.count c.reqbufs.new.self
+    c.settle.new.pair c.settle.new.events c.begin.new.self c.in-Ok.assembly
+    (no_refusal (reqbufs_refusal c.self.inside.m2m.pair.out) c.reqbufs_refusal.result
+    (c.reqbufs_refusal.ensures ∙ ap (λ (q : QueueState). option_map Refused (reqbufs_refusal q)) c.queue.ensures) c.in_default.is)
+    c.in-Ok-reqbufs.ensures.answer c.in-Ok-reqbufs.ensures.rest c.in-Ok.ensures c.begin.ensures c.settle.ensures.queues c.settle.ensures.told
 
 pub returns-clause-step : goal.returns-clause-step
 returns-clause-step c =
-    sources_steps c.self.inside c.args.self.now c.self.view_is c.self.invariant c.args.count c.in-Ok-reqbufs.count c.reqbufs.new.self c.settle.new.pair c.settle.new.events c.begin.new.self c.in-Ok.assembly (no_refusal (reqbufs_refusal c.self.inside.pair.out) c.reqbufs_refusal.result (c.reqbufs_refusal.ensures ∙ ap (λ (q : QueueState). option_map Refused (reqbufs_refusal q)) c.queue.ensures) c.in_default.is) c.in-Ok-reqbufs.ensures.answer c.in-Ok-reqbufs.ensures.rest c.in-Ok.ensures c.begin.ensures c.settle.ensures.queues c.settle.ensures.told c.requires.kept
+    sources_steps c.self.inside c.args.self.now c.self.view_is c.self.invariant c.args.count c.in-Ok-reqbufs.count c.reqbufs.new.self
+    c.settle.new.pair c.settle.new.events c.begin.new.self c.in-Ok.assembly
+    (no_refusal (reqbufs_refusal c.self.inside.m2m.pair.out) c.reqbufs_refusal.result
+    (c.reqbufs_refusal.ensures ∙ ap (λ (q : QueueState). option_map Refused (reqbufs_refusal q)) c.queue.ensures) c.in_default.is)
+    c.in-Ok-reqbufs.ensures.answer c.in-Ok-reqbufs.ensures.rest c.in-Ok.ensures c.begin.ensures c.settle.ensures.queues c.settle.ensures.told
+    c.requires.kept
 
 pub returns-clause-fit : goal.returns-clause-fit
 returns-clause-fit c =

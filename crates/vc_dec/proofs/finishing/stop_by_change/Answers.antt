@@ -1,6 +1,6 @@
 use Rattle.std.proofs.Common.{sym, subst}
 use Rattle.vc_pair.specs.Pairs.{PairState, FitsBoth}
-use Rattle.vc_dec.proofs.Fitting.{changed_fits}
+use Rattle.vc_dec.proofs.HoldFitsAtAChange.{changed_fits}
 use Rattle.vc_dec.proofs.finishing.stop_by_change.Goals as goal
 
 pub returns-clause-fit : goal.returns-clause-fit

@@ -1,25 +1,9 @@
 use Rattle.std.proofs.Common.{refl}
-use Rattle.vc_base.specs.declared.Errno.TheVariants.{Busy}
-use Rattle.vc_base.specs.declared.Reply.TheVariants.{Refused}
-use Rattle.vc_geom.specs.Pairs.{pair_of}
-use Rattle.vc_model.specs.Answer.{context_answer, refused}
-use Rattle.vc_enc.proofs.Answering.{always, no_decoder, encoder_command}
+use Rattle.vc_model.specs.Answer.{context_answer}
+use Rattle.vc_m2m.proofs.CallsLeftOver.{left_over}
+use Rattle.vc_enc.proofs.NeedsNoMemory.{always}
+use Rattle.vc_enc.proofs.CommonCalls.{parts, of_kind, counts, fits_both, shared_gives, shared_kept, shared_step}
 use Rattle.vc_enc.proofs.Encoder.answer.Goals as goal
-
-pub returns-in-EnumFmt-clause-answers : goal.returns-in-EnumFmt-clause-answers
-unfolding context_answer
-returns-in-EnumFmt-clause-answers c =
-    rw c.in-EnumFmt.is (always _ _ _ _ refl c.enum_format.ensures)
-
-pub returns-in-GetFmt-clause-answers : goal.returns-in-GetFmt-clause-answers
-unfolding context_answer
-returns-in-GetFmt-clause-answers c =
-    rw c.in-GetFmt.is (always _ _ _ _ refl c.format.ensures)
-
-pub returns-in-TryFmt-clause-answers : goal.returns-in-TryFmt-clause-answers
-unfolding context_answer
-returns-in-TryFmt-clause-answers c =
-    rw c.in-TryFmt.is (always _ _ _ _ refl c.try_format.ensures)
 
 pub returns-in-SetFmt-clause-answers : goal.returns-in-SetFmt-clause-answers
 unfolding context_answer
@@ -31,72 +15,16 @@ returns-in-SetFmt-clause-fit c = c.set_format.ensures.holds c.args.hold.now c.re
 
 pub returns-in-ReqBufs-clause-answers : goal.returns-in-ReqBufs-clause-answers
 unfolding context_answer
-returns-in-ReqBufs-clause-answers c =
-    rw c.in-ReqBufs.is (c.reqbufs.ensures.answers)
+returns-in-ReqBufs-clause-answers c = rw c.in-ReqBufs.is (c.reqbufs.ensures.answers)
 
 pub returns-in-CreateBufs-clause-answers : goal.returns-in-CreateBufs-clause-answers
 unfolding context_answer
-returns-in-CreateBufs-clause-answers c =
-    rw c.in-CreateBufs.is (c.create.ensures.answers)
-
-pub returns-in-QueryBuf-clause-answers : goal.returns-in-QueryBuf-clause-answers
-unfolding context_answer
-returns-in-QueryBuf-clause-answers c =
-    rw c.in-QueryBuf.is (always _ _ _ _ refl c.querybuf.ensures)
-
-pub returns-in-QBuf-clause-answers : goal.returns-in-QBuf-clause-answers
-unfolding context_answer
-returns-in-QBuf-clause-answers c =
-    rw c.in-QBuf.is (always _ _ _ _ refl c.qbuf.ensures.answers)
-
-pub returns-in-DqBuf-clause-answers : goal.returns-in-DqBuf-clause-answers
-unfolding context_answer
-returns-in-DqBuf-clause-answers c =
-    rw c.in-DqBuf.is (always _ _ _ _ refl c.dqbuf.ensures.answers)
-
-pub returns-in-StreamOn-clause-answers : goal.returns-in-StreamOn-clause-answers
-unfolding context_answer
-returns-in-StreamOn-clause-answers c =
-    rw c.in-StreamOn.is (always _ _ _ _ refl c.streamon.ensures.gives)
-
-pub returns-in-StreamOn-clause-fit : goal.returns-in-StreamOn-clause-fit
-returns-in-StreamOn-clause-fit c = c.streamon.ensures.holds c.args.hold.now c.requires.fits
+returns-in-CreateBufs-clause-answers c = rw c.in-CreateBufs.is (c.create.ensures.answers)
 
 pub returns-in-StreamOff-clause-answers : goal.returns-in-StreamOff-clause-answers
 unfolding context_answer
 returns-in-StreamOff-clause-answers c =
     rw c.in-StreamOff.is (always _ _ _ _ refl c.streamoff.ensures.answers)
-
-pub returns-in-Subscribe-clause-answers : goal.returns-in-Subscribe-clause-answers
-unfolding context_answer
-returns-in-Subscribe-clause-answers c =
-    rw c.in-Subscribe.is (always _ _ _ _ refl c.subscribe.ensures.gives)
-
-pub returns-in-Subscribe-clause-fit : goal.returns-in-Subscribe-clause-fit
-returns-in-Subscribe-clause-fit c = c.subscribe.ensures.holds c.args.hold.now c.requires.fits
-
-pub returns-in-Unsubscribe-clause-answers : goal.returns-in-Unsubscribe-clause-answers
-unfolding context_answer
-returns-in-Unsubscribe-clause-answers c =
-    rw c.in-Unsubscribe.is (always _ _ _ _ refl c.unsubscribe.ensures.gives)
-
-pub returns-in-Unsubscribe-clause-fit : goal.returns-in-Unsubscribe-clause-fit
-returns-in-Unsubscribe-clause-fit c = c.unsubscribe.ensures.holds c.args.hold.now c.requires.fits
-
-pub returns-in-DqEvent-clause-answers : goal.returns-in-DqEvent-clause-answers
-unfolding context_answer
-returns-in-DqEvent-clause-answers c =
-    rw c.in-DqEvent.is (always _ _ _ _ refl c.dqevent.ensures.gives)
-
-pub returns-in-DqEvent-clause-fit : goal.returns-in-DqEvent-clause-fit
-returns-in-DqEvent-clause-fit c = c.dqevent.ensures.holds c.args.hold.now c.requires.fits
-
-pub returns-in-EncCmd-clause-answers : goal.returns-in-EncCmd-clause-answers
-returns-in-EncCmd-clause-answers c =
-    rw c.in-EncCmd.is (encoder_command (pair_of c.self.inside.formats) c.self.inside.controls c.self.inside.pair c.self.inside.events c.self.inside.reference c.self.inside.job c.args.self.now _ _ _ _ c.self.view_is c.command.ensures.gives)
-
-pub returns-in-EncCmd-clause-fit : goal.returns-in-EncCmd-clause-fit
-returns-in-EncCmd-clause-fit c = c.command.ensures.holds c.args.hold.now c.requires.fits
 
 pub returns-in-GetCtrl-clause-answers : goal.returns-in-GetCtrl-clause-answers
 unfolding context_answer
@@ -111,16 +39,42 @@ returns-in-SetCtrl-clause-answers c =
 pub returns-in-SetCtrl-clause-fit : goal.returns-in-SetCtrl-clause-fit
 returns-in-SetCtrl-clause-fit c = c.set_control.ensures.holds c.args.hold.now c.requires.fits
 
-pub returns-in-Poll-clause-answers : goal.returns-in-Poll-clause-answers
-unfolding context_answer
-returns-in-Poll-clause-answers c =
-    rw c.in-Poll.is (always _ _ _ _ refl c.poll.ensures)
+pub answer-requires-clause-common : goal.answer-requires-clause-common
+answer-requires-clause-common c =
+    left_over c.args.call.now c.requires.other c.in_default.not-SetFmt c.in_default.not-ReqBufs c.in_default.not-CreateBufs c.in_default.not-StreamOff c.in_default.not-GetCtrl c.in_default.not-SetCtrl
 
-pub returns-in-DecCmd-clause-answers : goal.returns-in-DecCmd-clause-answers
-returns-in-DecCmd-clause-answers c =
-    rw (c.in-DecCmd.is, c.no_command.ensures) (no_decoder (pair_of c.self.inside.formats) c.self.inside.controls c.self.inside.pair c.self.inside.events c.self.inside.reference c.self.inside.job c.args.self.now _ _ c.self.view_is)
+pub answer-requires-clause-stands : goal.answer-requires-clause-stands
+answer-requires-clause-stands c = c.self.invariant.stands
 
-pub returns-in-Open-clause-answers : goal.returns-in-Open-clause-answers
-unfolding context_answer
-returns-in-Open-clause-answers c =
-    rw (c.in-Open.is, c.refused.ensures) (always _ (refused c.args.self.now Busy) (Refused Busy) c.args.self.now refl (record { reply = refl; context = refl }))
+pub answer-requires-clause-settled : goal.answer-requires-clause-settled
+answer-requires-clause-settled c = c.self.invariant.settled
+
+pub answer-requires-clause-fit : goal.answer-requires-clause-fit
+answer-requires-clause-fit c = fits_both c.self.inside.m2m c.self.inside.controls c.self.inside.reference c.self.inside.job c.args.self.now c.self.view_is c.self.invariant c.args.hold.now c.requires.fits
+
+pub answer-requires-clause-room : goal.answer-requires-clause-room
+answer-requires-clause-room c = counts c.self.inside.m2m c.self.inside.controls c.self.inside.reference c.self.inside.job c.args.self.now c.self.view_is c.self.invariant c.requires.room
+
+pub returns-in_default-clause-answers : goal.returns-in_default-clause-answers
+returns-in_default-clause-answers c =
+    shared_gives c.self.inside.m2m c.self.inside.controls c.self.inside.reference c.self.inside.job c.args.self.now c.self.view_is c.self.invariant
+    c.args.call.now _ c.answer.result c.answer.new.self
+    (c.answer.ensures.answers c.args.self.now
+    (parts c.self.inside.m2m c.self.inside.controls c.self.inside.reference c.self.inside.job c.args.self.now c.self.view_is c.self.invariant)
+    (of_kind c.self.inside.m2m c.self.inside.controls c.self.inside.reference c.self.inside.job c.args.self.now c.self.view_is c.self.invariant)
+    c.requires.kept)
+
+pub returns-in_default-clause-step : goal.returns-in_default-clause-step
+returns-in_default-clause-step c =
+    rw c.answer.ensures.after (shared_step c.self.inside.m2m c.self.inside.controls c.self.inside.reference c.self.inside.job c.args.self.now c.self.view_is c.self.invariant c.requires.kept c.args.hold.now c.args.call.now)
+
+pub returns-in_default-clause-moves : goal.returns-in_default-clause-moves
+returns-in_default-clause-moves c =
+    c.answer.ensures.moves c.args.self.now (parts c.self.inside.m2m c.self.inside.controls c.self.inside.reference c.self.inside.job c.args.self.now c.self.view_is c.self.invariant) c.requires.kept
+
+pub returns-in_default-clause-fit : goal.returns-in_default-clause-fit
+returns-in_default-clause-fit c =
+    let f = c.answer.ensures.fit in record { out = f.0; cap = f.1 }
+
+pub invariant_of-self : goal.invariant_of-self
+invariant_of-self c = rw c.answer.ensures.after (shared_kept c.self.inside.m2m c.self.inside.controls c.self.inside.reference c.self.inside.job c.args.self.now c.self.view_is c.self.invariant c.requires.kept c.args.hold.now c.args.call.now)

@@ -1,4 +1,4 @@
-use Rattle.vc_enc.proofs.Trying.{fault_back, has_room, one_more}
+use Rattle.vc_enc.proofs.JobsBroughtBackByHand.{fault_back, has_room, one_more}
 use Rattle.vc_enc.proofs.tests.fault.Goals as goal
 
 pub finish-requires-clause-room : goal.finish-requires-clause-room

@@ -1,6 +1,6 @@
 use Rattle.std.proofs.Common.{ap, sym}
 use Rattle.vc_model.specs.Context.{Context}
-use Rattle.vc_enc.proofs.Trying.{frame_back, has_room, one_more}
+use Rattle.vc_enc.proofs.JobsBroughtBackByHand.{frame_back, has_room, one_more}
 use Rattle.vc_enc.proofs.tests.frame.Goals as goal
 
 pub finish-requires-clause-room : goal.finish-requires-clause-room

@@ -1,6 +1,6 @@
 use Rattle.std.proofs.Common.{sym, ap, ◌∙◌, subst}
 use Rattle.vc_pair.specs.Pairs.{FitsBoth, given}
-use Rattle.vc_pair.proofs.Keeping.{fits_settled}
+use Rattle.vc_pair.proofs.SettlingKeepsTheHold.{fits_settled}
 use Rattle.vc_pair.proofs.Pair.settle.Goals as goal
 
 pub returns-clause-fit : goal.returns-clause-fit

@@ -1,4 +1,4 @@
-use Rattle.vc_context.proofs.Running.{runs_are_back}
+use Rattle.vc_context.proofs.RunsAreResults.{runs_are_back}
 use Rattle.vc_core.proofs.job.Job.run.Goals as goal
 
 pub returns-clause-done : goal.returns-clause-done

@@ -1,5 +1,5 @@
 use Rattle.std.proofs.Common.{sym, ap, ◌∙◌, Some}
-use Rattle.vc_core.proofs.Slots.{close_closed, close_blocked, close_done, closed_there, nothing_held}
+use Rattle.vc_core.proofs.SlotsAnswer.{close_closed, close_blocked, close_done, closed_there, nothing_held}
 use Rattle.vc_core.proofs.slot.Slot.close.Goals as goal
 
 pub returns-in_default-clause-answers : goal.returns-in_default-clause-answers

@@ -1,4 +1,4 @@
-use Rattle.vc_core.proofs.Slots.{not_claimable}
+use Rattle.vc_core.proofs.SlotsAnswer.{not_claimable}
 use Rattle.vc_core.proofs.slot.Slot.is_claimable.Goals as goal
 
 pub returns-in-Closed : goal.returns-in-Closed

@@ -1,4 +1,4 @@
-use Rattle.vc_core.proofs.Slots.{opens, no_room}
+use Rattle.vc_core.proofs.SlotsAnswer.{opens, no_room}
 use Rattle.vc_core.proofs.slot.Slot.open.Goals as goal
 
 pub returns-clause-answers : goal.returns-clause-answers

@@ -1,4 +1,4 @@
-use Rattle.vc_dec.proofs.Serves.{others_have}
+use Rattle.vc_dec.proofs.ReferencesByLength.{others_have}
 use Rattle.vc_dec.proofs.codec.Codec.lend_reference.Goals as goal
 
 pub bring_forward-requires-clause-there : goal.bring_forward-requires-clause-there

@@ -1,4 +1,4 @@
-use Rattle.vc_dec.proofs.Trying.{fault_back, has_room, one_more}
+use Rattle.vc_dec.proofs.JobsBroughtBackByHand.{fault_back, has_room, one_more}
 use Rattle.vc_dec.proofs.tests.ends.give_up.Goals as goal
 
 pub finish-requires-clause-room : goal.finish-requires-clause-room

@@ -1,0 +1,4 @@
+pub mod CallsLeftOver
+pub mod EventsAndFormats
+pub mod PartsSettle
+pub mod QueuesAnswer
