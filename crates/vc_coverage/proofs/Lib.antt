@@ -1,5 +1,5 @@
-pub mod KeyHeaders
-pub mod Chains
-pub mod Ends
-pub mod Reaching
-pub mod Turns
+pub mod ChainsCoverUpToAPlace
+pub mod EndsOfFrames
+pub mod FeedsReadOn
+pub mod FindsAreReached
+pub mod NothingWithoutAKeyHeader

@@ -1,7 +1,7 @@
 -- What a coverage is for its caller, and which bytes it has read.
-use Rattle.std.specs.Prelude.{◌≡◌, ℕ, List, length}
+use Rattle.std.specs.Prelude.{◌≡◌, ◌+◌, ℕ, List, ◌++◌, length}
 use Rattle.vc_base.specs.declared.Stamp.{Stamp}
-use Rattle.vc_defs.specs.Headers.{most_bytes}
+use Rattle.vc_base.specs.Limits.{most_bytes}
 use Rattle.vc_defs.specs.Finds.{finds}
 use Rattle.vc_defs.specs.Laws.{kept_at}
 use Rattle.vc_resync.specs.Assembling.{AssemblyState}
@@ -31,3 +31,9 @@ pub record HasRead (c : CoverageState) (bytes : List ℕ) : Type 0 where
 pub record WasRead (c : CoverageState) : Type 0 where
   pub bytes : List ℕ
   pub has_read : HasRead c bytes
+
+-- whatever bytes were read before, the piece was read behind them
+abbrev pub ReadsOn : AssemblyState → AssemblyState → Reach → Reach → ℕ → List ℕ → Type 0
+ReadsOn assembly_old assembly_new reach_old reach_new read piece =
+    (bytes : List ℕ) → HasRead (record { assembly = assembly_old; read = read; reach = reach_old }) bytes →
+    HasRead (record { assembly = assembly_new; read = read + length piece; reach = reach_new }) (bytes ++ piece)

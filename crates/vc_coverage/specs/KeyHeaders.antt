@@ -3,7 +3,7 @@
 use Rattle.std.specs.Prelude.{◌≡◌, ℕ, List, [], Bool, false}
 use Rattle.std.specs.List.{list_any}
 use Rattle.std.specs.declared.option.Option.TheVariants.{None}
-use Rattle.vc_defs.specs.Headers.{most_bytes}
+use Rattle.vc_base.specs.Limits.{most_bytes}
 use Rattle.vc_defs.specs.Places.{leaves_a_byte}
 use Rattle.vc_defs.specs.Finds.{Find, Head, Ended, finds}
 use Rattle.vc_defs.specs.Decoder.{results}

@@ -1,19 +1,17 @@
 //! Reading a stream piece by piece.
 
 ghost use Rattle.std.specs.Prelude.{◌≡◌, ◌<◌, ◌+◌, ◌^◌, ℕ, List, [], ◌++◌, length, IfOk};
-ghost use Rattle.vc_defs.specs.Headers.{most_bytes};
+ghost use Rattle.vc_base.specs.Limits.{most_bytes};
 ghost use Rattle.vc_defs.specs.Places.{leaves_a_byte};
 ghost use Rattle.vc_coverage.specs.KeyHeaders.{has_key_header};
-ghost use Rattle.vc_coverage.specs.Covering.{HasRead, WasRead, bytes_read};
+ghost use Rattle.vc_coverage.specs.Covering.{HasRead, WasRead, ReadsOn, bytes_read};
 
 use crate::reach::Reach;
 use std::alloc::Global;
 use std::marker::Model;
+use vc_base::limits::MOST_BYTES;
 use vc_base::{NoMemory, Stamp};
 use vc_resync::{Assembly, Found, feed};
-
-/// The largest body of a frame, in bytes.
-const MOST_BYTES: u32 = 17_694_720;
 
 /// Which of the bytes of a stream that were read so far lie in frames.
 #[derive(Drop)]
@@ -37,7 +35,7 @@ impl Model for Coverage {
 fn feed_all(assembly: &mut Assembly, reach: &mut Reach, read: u64, piece: &[u8])
     requires fits { read + length piece.now < 2 ^ 64 }
     requires was_read { WasRead (record { assembly = assembly.old; read = read; reach = reach.old }) }
-    ensures { (bytes : List ℕ) → HasRead (record { assembly = assembly.old; read = read; reach = reach.old }) bytes → HasRead (record { assembly = assembly.new; read = read + length piece.now; reach = reach.new }) (bytes ++ piece.now) }
+    ensures { ReadsOn assembly.old assembly.new reach.old reach.new read piece.now }
 {
     let mut taken = 0;
     loop {

@@ -1,6 +1,6 @@
 -- What a run of a stream tells.
-use Rattle.vc_decode.specs.declared.decoded.Decoded.{Decoded}
-use Rattle.vc_decode.specs.declared.decoded.Decoded.TheVariants.{Picture as PictureRun, Damaged as DamagedRun, Changed as ChangedRun, Spent as SpentRun}
+use Rattle.vc_stream_run.specs.declared.decoded.Decoded.{Decoded}
+use Rattle.vc_stream_run.specs.declared.decoded.Decoded.TheVariants.{Picture as PictureRun, Damaged as DamagedRun, Changed as ChangedRun, Spent as SpentRun}
 use Rattle.vc_work.specs.declared.engine.Outcome.{Outcome}
 use Rattle.vc_work.specs.declared.engine.Outcome.TheVariants.{Picture, Damaged, Changed, Spent}
 

@@ -1,12 +1,10 @@
 //! Engines that do each run on the caller's thread, by the definitions and nothing else, and never fail.
 //!
-//! They differ in the transform alone, so all of them give the same bytes.
+//! They differ in the coder of blocks alone. Each coder gives what the definitions give, so that all engines give the
+//! same bytes.
 #![tactic(auto)]
 
-mod fast;
-mod plain;
+mod engine;
 mod runs;
 
-pub use fast::FastEngine;
-pub use plain::PlainEngine;
-pub use runs::run_with;
+pub use engine::{CodecEngine, FastEngine, PlainEngine, TransformEngine};

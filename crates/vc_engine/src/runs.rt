@@ -6,9 +6,9 @@ ghost use Rattle.vc_work.specs.declared.work.Sort.TheVariants.{Copy, Encode, Pro
 ghost use Rattle.vc_work.specs.Runs.{Fits, IsRun, KeepsLengths};
 ghost use Rattle.vc_engine.specs.Telling.{outcome_of};
 
-use vc_decode::{Decoded, decode_run, probe_run};
+use vc_coder::BlockCoder;
 use vc_frame::encode_frame;
-use vc_fwht::Transform;
+use vc_stream_run::{Decoded, decode_run, probe_run};
 use vc_work::{Outcome, Sort, Work};
 
 /// Copies so many bytes from the front of one to the front of the other.
@@ -37,7 +37,7 @@ fn run_copy(work: &mut Work) -> u32
 }
 
 /// An encode run.
-fn run_encode<T: Transform>(t: &T, work: &mut Work) -> (u32, bool)
+fn run_encode<C: BlockCoder>(coder: &C, work: &mut Work) -> (u32, bool)
     requires fits { Fits work.old }
     requires sort { work.old.sort ≡ Encode }
     ensures run { IsRun work.old work.new (Encoded result.0 result.1) }
@@ -50,7 +50,7 @@ fn run_encode<T: Transform>(t: &T, work: &mut Work) -> (u32, bool)
         unreachable!()
     };
     let raw = &work.source.payload[..work.source.used as usize];
-    let (used, key) = encode_frame(t, raw, &work.format, &work.rates, reference, dest);
+    let (used, key) = encode_frame(coder, raw, &work.format, &work.rates, reference, dest);
     (used as u32, key)
 }
 
@@ -84,7 +84,7 @@ fn run_probe(work: &mut Work) -> Outcome
 }
 
 /// A decode run.
-fn run_decode<T: Transform>(t: &T, work: &mut Work) -> Outcome
+fn run_decode<C: BlockCoder>(coder: &C, work: &mut Work) -> Outcome
     requires fits { Fits work.old }
     requires sort { work.old.sort ≡ Decode }
     ensures run { IsRun work.old work.new result }
@@ -105,7 +105,7 @@ fn run_decode<T: Transform>(t: &T, work: &mut Work) -> Outcome
     let source = &mut work.source;
     let fresh = &source.payload[source.cursor as usize..source.used as usize];
     let (count, decoded) = decode_run(
-        t,
+        coder,
         assembly,
         reference,
         geometry,
@@ -119,7 +119,7 @@ fn run_decode<T: Transform>(t: &T, work: &mut Work) -> Outcome
 }
 
 /// Does the run with a transform.
-pub fn run_with<T: Transform>(t: &T, work: &mut Work) -> Outcome
+pub(crate) fn run_with<C: BlockCoder>(coder: &C, work: &mut Work) -> Outcome
     requires fits { Fits work.old }
     ensures run { IsRun work.old work.new result }
     ensures lengths { KeepsLengths work.old work.new }
@@ -130,10 +130,10 @@ pub fn run_with<T: Transform>(t: &T, work: &mut Work) -> Outcome
             Outcome::Copied { used }
         },
         Sort::Encode => {
-            let (used, key) = run_encode(t, work);
+            let (used, key) = run_encode(coder, work);
             Outcome::Encoded { used, key }
         },
         Sort::Probe => run_probe(work),
-        Sort::Decode => run_decode(t, work),
+        Sort::Decode => run_decode(coder, work),
     }
 }

@@ -1,8 +1,8 @@
-pub mod PlaneSteps
-pub mod RawOrders
-pub mod Intra
-pub mod WholeBodies
-pub mod Pictures
-pub mod EncodedFrames
-pub mod DecodedFrames
-pub mod ComesBack
+pub mod PlanesOneByOne
+pub mod RawOrdersBothWays
+pub mod IFramesNeedNoReference
+pub mod BodiesAreWhole
+pub mod AreasArePictures
+pub mod NextFrameIsEncoded
+pub mod FrameOverAnArea
+pub mod FramesComeBack

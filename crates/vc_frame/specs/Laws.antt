@@ -5,7 +5,8 @@ use Rattle.std.specs.declared.option.Option.TheVariants.{Some, None}
 use Rattle.vc_base.specs.declared.Format.{Format}
 use Rattle.vc_defs.specs.declared.Geometry.{Geometry}
 use Rattle.vc_defs.specs.declared.Header.{Header}
-use Rattle.vc_defs.specs.Headers.{most_bytes, header_from}
+use Rattle.vc_defs.specs.Headers.{header_from}
+use Rattle.vc_base.specs.Limits.{most_bytes}
 use Rattle.vc_defs.specs.Bodies.{IsPicture}
 use Rattle.vc_defs.specs.Raw.{raw_of, geometry_of}
 use Rattle.vc_defs.specs.Decoder.{ReferenceState, frame_planes}

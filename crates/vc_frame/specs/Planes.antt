@@ -4,10 +4,13 @@ use Rattle.std.specs.List.{flat_map}
 use Rattle.std.specs.declared.option.Option.TheVariants.{Some}
 use Rattle.vc_defs.specs.Bytes.{written_at}
 use Rattle.vc_defs.specs.Planes.{WrittenPlane}
-use Rattle.vc_defs.specs.Bodies.{planes_from}
-use Rattle.vc_defs.specs.Raw.{cut_into}
-use Rattle.vc_defs.specs.Encoder.{body_of}
+use Rattle.vc_base.specs.declared.Fourcc.{Fourcc}
+use Rattle.vc_defs.specs.declared.Geometry.{Geometry}
+use Rattle.vc_defs.specs.Bodies.{plane_shapes, planes_from}
+use Rattle.vc_defs.specs.Raw.{cut_into, planes_of}
+use Rattle.vc_defs.specs.Encoder.{body_of, written_planes}
 use Rattle.vc_frame.specs.declared.planes.Body.{Body}
+use Rattle.vc_frame.specs.declared.planes.Coding.{Coding}
 
 -- no plane is empty
 abbrev pub AreSome : List (ℕ × ℕ) → Type 0
@@ -21,6 +24,14 @@ samples_shown planes = flat_map (λ (p : WrittenPlane). p.samples) planes
 -- which of the planes are stored raw; a plane that isn't there is not
 abbrev pub raw_told : List WrittenPlane → List Bool
 raw_told planes = take 3 (map (λ (p : WrittenPlane). p.raw) planes ++ false ∷ false ∷ false ∷ [])
+
+-- planes of these sizes, as an encoder writes them over those of an area, both one behind the other
+abbrev pub planes_over : Coding → List (ℕ × ℕ) → List ℕ → List ℕ → List WrittenPlane
+planes_over coding sizes planes area = written_planes coding.inter coding.qp sizes (cut_into sizes planes) (cut_into sizes area)
+
+-- the planes of a raw picture, as an encoder writes them over those of an area
+abbrev pub picture_over : Coding → Fourcc → Geometry → List ℕ → List ℕ → List WrittenPlane
+picture_over coding fourcc g raw area = written_planes coding.inter coding.qp (plane_shapes g) (planes_of fourcc g.width g.height raw) (cut_into (plane_shapes g) area)
 
 -- The planes were written from a place on as an encoder writes them, and at the front of the area, where so many
 -- samples of theirs were, are now those that a decoder will have.

@@ -1,23 +1,22 @@
 //! Decoding a frame.
 
 ghost use Rattle.std.specs.Prelude.{◌≡◌, ◌≤◌, ◌↔◌, ◌||◌, length, true, Some, None, IsOk, IsSome, MatchResult};
-ghost use Rattle.vc_defs.specs.Headers.{is_legal, is_legal_geometry, is_legal_number, most_bytes};
-ghost use Rattle.vc_defs.specs.Bodies.{plane_shapes, body_planes};
-ghost use Rattle.vc_defs.specs.Raw.{cut_into};
+ghost use Rattle.vc_defs.specs.Headers.{is_legal, is_legal_geometry, is_legal_number};
+ghost use Rattle.vc_base.specs.Limits.{most_bytes};
 ghost use Rattle.vc_defs.specs.Decoder.{same_geometry, is_next_number, follows_reference, frame_planes};
 ghost use Rattle.vc_work.specs.References.{picture_total};
-ghost use Rattle.vc_frame.specs.Frames.{with_picture, picture_of, shown_over};
+ghost use Rattle.vc_frame.specs.Frames.{with_picture, picture_of, planes_in, body_over, shown_over};
 ghost use Rattle.vc_frame.specs.Order.{IsRawOf};
 
 use crate::order::put_raw;
 use crate::planes::{plane_sizes, read_planes};
 use vc_base::Fourcc;
+use vc_coder::BlockCoder;
 use vc_defs::{Damaged, Geometry, Header};
-use vc_fwht::Transform;
 use vc_work::Reference;
 
-/// Whether two geometries are the same.
-fn is_same(a: &Geometry, b: &Geometry) -> bool
+/// Whether two geometries are the same: width, height and layout.
+pub fn is_same_geometry(a: &Geometry, b: &Geometry) -> bool
     ensures { result ≡ same_geometry a.now b.now }
 {
     a.width == b.width && a.height == b.height && a.layout == b.layout
@@ -40,7 +39,8 @@ fn follows(header: &Header, reference: &Reference) -> bool
 {
     match &reference.geometry {
         Some(geometry) => {
-            is_same(geometry, &header.geometry) && is_next_number(reference.number, header.number)
+            is_same_geometry(geometry, &header.geometry)
+                && is_next_number(reference.number, header.number)
         },
         None => false,
     }
@@ -54,19 +54,19 @@ fn may_read(header: &Header, reference: &Reference) -> bool
 }
 
 /// Reads the planes of a body, all of which they are.
-fn read_body<T: Transform>(
-    t: &T,
+fn read_body<C: BlockCoder>(
+    coder: &C,
     header: &Header,
     body: &[u8],
     area: &mut [u8],
 ) -> Result<(), Damaged>
     requires legal { is_legal_geometry header.now.geometry ≡ true }
     requires area { picture_total header.now.geometry ≤ length area.old }
-    ensures { let planes = body_planes header.now (cut_into (plane_shapes header.now.geometry) area.old) body.now in MatchResult result (λ _. planes ≡ Some (cut_into (plane_shapes header.now.geometry) area.new)) (λ _. planes ≡ None) }
+    ensures { MatchResult result (λ _. body_over header.now area.old body.now ≡ Some (planes_in header.now.geometry area.new)) (λ _. body_over header.now area.old body.now ≡ None) }
 {
     let sizes = plane_sizes(&header.geometry);
     let sizes = &sizes.all[..sizes.count];
-    match read_planes(t, sizes, &header.raw, !header.key, body, 0, area) {
+    match read_planes(coder, sizes, &header.raw, !header.key, body, 0, area) {
         Ok(end) if end == body.len() => Ok(()),
         _ => Err(Damaged),
     }
@@ -81,8 +81,8 @@ fn read_body<T: Transform>(
 /// there is no reference, or one of another geometry, or the frame's number isn't the next one. Then the reference has
 /// no picture, and the output is as it was. Else the picture becomes the reference, with the frame's number or none.
 /// The rules are docs/FORMAT.md, "The sequential decoder".
-pub fn decode_frame<T: Transform>(
-    t: &T,
+pub fn decode_frame<C: BlockCoder>(
+    coder: &C,
     header: &Header,
     body: &[u8],
     fourcc: Fourcc,
@@ -102,7 +102,7 @@ pub fn decode_frame<T: Transform>(
     if !good {
         return Err(Damaged);
     }
-    match read_body(t, header, body, &mut reference.area) {
+    match read_body(coder, header, body, &mut reference.area) {
         Ok(()) => {},
         Err(damaged) => return Err(damaged),
     }

@@ -11,7 +11,7 @@ pub mod laws;
 mod order;
 mod planes;
 
-pub use decoding::decode_frame;
+pub use decoding::{decode_frame, is_same_geometry};
 pub use encoding::encode_frame;
 
 #[cfg(test)]

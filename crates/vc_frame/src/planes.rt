@@ -3,12 +3,11 @@
 ghost use Rattle.std.specs.Prelude.{◌≡◌, ◌≤◌, ◌+◌, length, take, drop, None, IfOk, OnErr};
 ghost use Rattle.vc_defs.specs.Bodies.{plane_shapes, padded_total, planes_from};
 ghost use Rattle.vc_defs.specs.Raw.{cut_into};
-ghost use Rattle.vc_defs.specs.Encoder.{written_planes};
 ghost use Rattle.vc_work.specs.References.{plane_total};
-ghost use Rattle.vc_frame.specs.Planes.{AreSome, AreWritten, AreRead};
+ghost use Rattle.vc_frame.specs.Planes.{AreSome, AreWritten, AreRead, planes_over};
 
+use vc_coder::BlockCoder;
 use vc_defs::{Damaged, Geometry, Layout};
-use vc_fwht::Transform;
 use vc_plane::{Shape, read_plane, write_plane};
 
 /// The width and height of a plane.
@@ -54,8 +53,8 @@ pub(crate) struct Body {
 
 /// Writes planes into the output from `at` on. They lie one behind the other in `planes`, and their references so in
 /// `area`, which becomes what a decoder will have.
-pub(crate) fn write_planes<T: Transform>(
-    t: &T,
+pub(crate) fn write_planes<C: BlockCoder>(
+    coder: &C,
     sizes: &[Size],
     coding: &Coding,
     planes: &[u8],
@@ -68,7 +67,7 @@ pub(crate) fn write_planes<T: Transform>(
     requires area { plane_total sizes.now ≤ length area.old }
     requires qp { (1 ≤ coding.now.qp) × (coding.now.qp ≤ 31) }
     requires room { at + padded_total sizes.now ≤ length out.old }
-    ensures { AreWritten (written_planes coding.now.inter coding.now.qp sizes.now (cut_into sizes.now planes.now) (cut_into sizes.now area.old)) (plane_total sizes.now) area.old area.new out.old out.new at result }
+    ensures { AreWritten (planes_over coding.now sizes.now planes.now area.old) (plane_total sizes.now) area.old area.new out.old out.new at result }
 {
     let Some((size, sizes)) = sizes.split_first() else {
         return Body {
@@ -85,8 +84,8 @@ pub(crate) fn write_planes<T: Transform>(
     let samples = size.0 as usize * size.1 as usize;
     let (plane, planes) = planes.split_at(samples);
     let (mine, area) = area.split_at_mut(samples);
-    let written = write_plane(t, plane, mine, &shape, out, at);
-    let rest = write_planes(t, sizes, coding, planes, area, out, written.end);
+    let written = write_plane(coder, plane, mine, &shape, out, at);
+    let rest = write_planes(coder, sizes, coding, planes, area, out, written.end);
     Body {
         end: rest.end,
         raw: [written.raw, rest.raw[0], rest.raw[1]],
@@ -95,8 +94,8 @@ pub(crate) fn write_planes<T: Transform>(
 
 /// Reads planes from `at` on, and gives their end. They become the samples of `area`, one behind the other, where their
 /// references lie before. Of a damaged plane and those behind it nothing is said.
-pub(crate) fn read_planes<T: Transform>(
-    t: &T,
+pub(crate) fn read_planes<C: BlockCoder>(
+    coder: &C,
     sizes: &[Size],
     raw: &[bool],
     inter: bool,
@@ -121,8 +120,8 @@ pub(crate) fn read_planes<T: Transform>(
         qp: 1,
     };
     let (mine, area) = area.split_at_mut(size.0 as usize * size.1 as usize);
-    match read_plane(t, body, at, &shape, raw[0], mine) {
-        Ok(end) => read_planes(t, sizes, &raw[1..], inter, body, end, area),
+    match read_plane(coder, body, at, &shape, raw[0], mine) {
+        Ok(end) => read_planes(coder, sizes, &raw[1..], inter, body, end, area),
         Err(damaged) => Err(damaged),
     }
 }

@@ -1,7 +1,8 @@
 //! The named frames of docs/FORMAT.md, and pictures of every raw format back from their frames.
 
 ghost use Rattle.std.specs.Prelude.{◌≡◌, ◌≤◌, true, IfOk};
-ghost use Rattle.vc_defs.specs.Headers.{is_legal, is_legal_number, most_bytes};
+ghost use Rattle.vc_defs.specs.Headers.{is_legal, is_legal_number};
+ghost use Rattle.vc_base.specs.Limits.{most_bytes};
 ghost use Rattle.vc_defs.specs.Laws.{IsRawFormat};
 ghost use Rattle.vc_defs.specs.Raw.{grey, geometry_of};
 ghost use Rattle.vc_defs.specs.Bodies.{padded_sum};
@@ -12,6 +13,7 @@ ghost use Rattle.vc_work.specs.Runs.{HasGeometry};
 use super::*;
 use std::test::Fail;
 use vc_base::{Format, Fourcc};
+use vc_coder::TransformCoder;
 use vc_defs::{Damaged, Geometry, Header, Layout, NotHeader};
 use vc_fwht::{FastTransform, PlainTransform};
 use vc_work::{Rates, Reference};
@@ -80,7 +82,7 @@ fn becomes(
 {
     let mut out = [0; 300];
     let (end, key) = encode_frame(
-        &FastTransform,
+        &TransformCoder(FastTransform),
         raw,
         &small(GREY, 256),
         &rates(iqp),
@@ -154,7 +156,7 @@ fn decodes(reference: &mut Reference, key: bool, number: Option<u32>) -> Result<
         number,
     };
     match decode_frame(
-        &FastTransform,
+        &TransformCoder(FastTransform),
         &header,
         &[0, 6, 0, 15],
         GREY,
@@ -230,7 +232,7 @@ fn comes_back(
     for picture in 0..4 {
         fill(&mut raw[..size as usize], picture / 2);
         let (end, key) = encode_frame(
-            &PlainTransform,
+            &TransformCoder(PlainTransform),
             &raw[..size as usize],
             &format,
             &rates(5),
@@ -244,7 +246,7 @@ fn comes_back(
             return false;
         }
         let answer = decode_frame(
-            &FastTransform,
+            &TransformCoder(FastTransform),
             &header,
             &out[44..end],
             fourcc,

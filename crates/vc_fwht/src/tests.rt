@@ -28,12 +28,13 @@ fn alternating(even: i32, odd: i32) -> [i32; 64]
     x
 }
 
-/// Whether a transform gives what the plain calls give.
-fn is_plain<T: Transform>(t: &T, x: &[i32; 64]) -> bool
+/// Whether both forms give the same of a block, both ways.
+fn agree(x: &[i32; 64]) -> bool
     requires samples { AllBetween (neg_ℤ (pos 255)) (pos 255) x.now }
     requires coefficients { AllBetween (neg_ℤ (pos 2097152)) (pos 2097152) x.now }
 {
-    t.forward(x) == forward_plain(x) && t.inverse(x) == inverse_plain(x)
+    FastTransform.forward(x) == PlainTransform.forward(x)
+        && FastTransform.inverse(x) == PlainTransform.inverse(x)
 }
 
 #[test]
@@ -41,11 +42,8 @@ fn both_forms_agree(rt: HostRuntime) {
     for (even, odd, first) in [(255, 255, 16320), (-255, -255, -16320), (255, -255, 0)] {
         assert!(rt; -255 <= even && even <= 255 && -255 <= odd && odd <= 255);
         let x = alternating(even, odd);
-        assert!(rt; is_plain(&FastTransform, &x));
-        assert!(rt; is_plain(&PlainTransform, &x));
-        let coefficients = forward(&x);
-        assert_eq!(rt; coefficients[0], first);
-        assert_eq!(rt; inverse(&x), coefficients);
+        assert!(rt; agree(&x));
+        assert_eq!(rt; FastTransform.forward(&x)[0], first);
     }
-    assert_eq!(rt; inverse(&alternating(255, 0))[0], 8160);
+    assert_eq!(rt; FastTransform.inverse(&alternating(255, 0))[0], 8160);
 }

@@ -101,17 +101,25 @@ fn columns_of(x: &[i32; 64]) -> [i32; 64]
     last_stage_of(&stage_of(&stage_of(x)))
 }
 
+/// The transform of a block, by butterflies over rows and then, in lanes, over columns.
+fn by_lanes(x: &[i32; 64]) -> [i32; 64]
+    requires { AllBetween (neg_ℤ (pos 2097152)) (pos 2097152) x.now }
+    ensures { result ≡ transformed x.now }
+{
+    columns_of(&rows_of(x))
+}
+
 /// The transform by vectors, of which a lane has a column. It gives what every [`Transform`] gives.
-#[derive(Clone, Copy, Debug)]
+#[derive(Clone, Copy, Debug, Default)]
 pub struct LaneTransform;
 
 impl Transform for LaneTransform {
     fn forward(&self, x: &[i32; 64]) -> [i32; 64] {
-        columns_of(&rows_of(x))
+        by_lanes(x)
     }
 
     fn inverse(&self, c: &[i32; 64]) -> [i32; 64] {
-        columns_of(&rows_of(c))
+        by_lanes(c)
     }
 }
 

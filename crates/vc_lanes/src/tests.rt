@@ -4,7 +4,7 @@ ghost use Rattle.std.specs.Prelude.{◌≤ℤ◌, neg_ℤ, pos};
 ghost use Rattle.vc_defs.specs.Quantiser.{AllBetween};
 
 use super::LaneTransform;
-use vc_fwht::{Transform, forward_plain, inverse_plain};
+use vc_fwht::{PlainTransform, Transform};
 
 /// One of two numbers, in turn.
 fn in_turn(k: usize, even: i32, odd: i32) -> i32
@@ -29,12 +29,12 @@ fn alternating(even: i32, odd: i32) -> [i32; 64]
     x
 }
 
-/// Whether a transform gives what the plain calls give.
+/// Whether a transform gives what the sums give.
 fn is_plain<T: Transform>(t: &T, x: &[i32; 64]) -> bool
     requires samples { AllBetween (neg_ℤ (pos 255)) (pos 255) x.now }
     requires coefficients { AllBetween (neg_ℤ (pos 2097152)) (pos 2097152) x.now }
 {
-    t.forward(x) == forward_plain(x) && t.inverse(x) == inverse_plain(x)
+    t.forward(x) == PlainTransform.forward(x) && t.inverse(x) == PlainTransform.inverse(x)
 }
 
 #[test]

@@ -1,11 +1,8 @@
 -- What stands where an entry of a plane is looked for.
 use Rattle.std.specs.Prelude.{◌≡◌, ℕ, suc, ◌+◌, ◌-◌, ◌<◌, ◌≤◌, List, ℤ, Bool, length, drop, replicate}
 use Rattle.std.specs.declared.option.Option.TheVariants.{None}
-use Rattle.vc_defs.specs.Planes.{Block, blocks_from, blocks_behind}
-
--- a block of this type and these values
-abbrev pub block_with : Bool → List ℤ → Block
-block_with inter values = record { inter = inter; values = values }
+use Rattle.vc_defs.specs.Planes.{blocks_from, blocks_behind}
+use Rattle.vc_coder.specs.Blocks.{block_with}
 
 -- an entry stands there in a frame that may have P blocks or not, where so many blocks are left: it stands for a block
 -- of this type and these values and for so many more like it, and has this end

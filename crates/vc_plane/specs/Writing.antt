@@ -2,11 +2,20 @@
 use Rattle.std.specs.Prelude.{◌≡◌, ℕ, ◌+◌, ◌≤◌, List, ◌∷◌, ℤ, Bool, length, Result}
 use Rattle.vc_defs.specs.declared.Full.{Full}
 use Rattle.vc_defs.specs.Bytes.{Writes, written_at}
-use Rattle.vc_defs.specs.Planes.{Block, entries_bytes, entries_after, written_plane}
+use Rattle.vc_defs.specs.Planes.{Block, block_of, coded_block, coded_blocks, entries_bytes, entries_after, written_plane}
 use Rattle.vc_plane.specs.declared.Shape.{Shape}
 use Rattle.vc_plane.specs.declared.Written.{Written}
 use Rattle.vc_plane.specs.declared.writing.Pending.{Pending}
-use Rattle.vc_plane.specs.Entries.{block_with}
+use Rattle.vc_coder.specs.Blocks.{block_with}
+
+-- the block of a plane with this number, as an encoder codes it, where the reference has its block of this number
+abbrev pub coded_at : Shape → List ℕ → List ℕ → ℕ → Block
+coded_at shape plane reference number =
+    coded_block shape.inter shape.qp (block_of plane shape.width shape.height number) (block_of reference shape.width shape.height number)
+
+-- the blocks of a plane, as an encoder codes them
+abbrev pub blocks_in : Shape → List ℕ → List ℕ → List Block
+blocks_in shape plane reference = coded_blocks shape.inter shape.qp plane reference shape.width shape.height
 
 -- to write the bytes that are left now is to write all of them from the start
 pub record Left (old : List ℕ) (at : ℕ) (total now : List ℕ) (end : ℕ) (left : List ℕ) : Type 0 where

@@ -6,7 +6,6 @@ ghost use Rattle.vc_defs.specs.Words.{word_of};
 ghost use Rattle.vc_defs.specs.Planes.{inter_of, repeats_of, head_of, is_head};
 ghost use Rattle.vc_plane.specs.Entries.{IsEntryRead, IsNoEntry};
 
-use byteorder::{BigEndian, ByteOrder};
 use vc_defs::Damaged;
 use vc_rlc::read_block;
 

@@ -9,8 +9,8 @@ use crate::Shape;
 use crate::blocks::show_blocks;
 use crate::entries::read_entry;
 use crate::raw::{are_samples, unpad};
+use vc_coder::BlockCoder;
 use vc_defs::Damaged;
-use vc_fwht::Transform;
 
 /// The number of blocks of the padded plane.
 pub(crate) fn block_count(shape: &Shape) -> usize
@@ -20,8 +20,8 @@ pub(crate) fn block_count(shape: &Shape) -> usize
 }
 
 /// Reads the entries of a coded plane.
-fn read_coded<T: Transform>(
-    t: &T,
+fn read_coded<C: BlockCoder>(
+    coder: &C,
     body: &[u8],
     at: usize,
     shape: &Shape,
@@ -43,7 +43,7 @@ fn read_coded<T: Transform>(
             Err(damaged) => return Err(damaged),
         };
         let last = next + entry.repeats + 1;
-        show_blocks(t, &q, shape, entry.inter, reference, next, last);
+        show_blocks(coder, &q, shape, entry.inter, reference, next, last);
         next = last;
         end = entry.end;
     }
@@ -78,8 +78,8 @@ fn read_raw(body: &[u8], at: usize, shape: &Shape, reference: &mut [u8]) -> Resu
 /// The answer is [`Damaged`] exactly where no legal plane stands at the front of these bytes: a head has a bit that
 /// means nothing, or is of a P block in an I frame, or stands for more blocks than are left; words spell no block; a
 /// byte of a raw plane is 255; or the bytes end. Then nothing is said of the samples of the reference.
-pub fn read_plane<T: Transform>(
-    t: &T,
+pub fn read_plane<C: BlockCoder>(
+    coder: &C,
     body: &[u8],
     at: usize,
     shape: &Shape,
@@ -95,6 +95,6 @@ pub fn read_plane<T: Transform>(
     if raw {
         read_raw(body, at, shape, reference)
     } else {
-        read_coded(t, body, at, shape, reference)
+        read_coded(coder, body, at, shape, reference)
     }
 }

@@ -3,9 +3,9 @@
 ghost use Rattle.std.specs.Prelude.{◌≡◌};
 
 use super::*;
+use vc_coder::{BlockCoder, TransformCoder};
 use vc_defs::Damaged;
-use vc_fwht::{FastTransform, PlainTransform, Transform};
-use vc_quant::dequantise;
+use vc_fwht::{FastTransform, PlainTransform};
 use vc_rlc::read_block;
 
 /// A frame of 16 by 16 samples.
@@ -26,7 +26,7 @@ fn shape(inter: bool, qp: u32) -> Shape
 fn read_whole(body: &[u8], inter: bool, raw: bool) -> Option<[u8; 256]> {
     let mut reference = [7; 256];
     match read_plane(
-        &FastTransform,
+        &TransformCoder(FastTransform),
         body,
         0,
         &shape(inter, 20),
@@ -72,7 +72,7 @@ fn illegal_planes_are_damaged(rt: HostRuntime) {
     raw[200] = 255;
     assert_eq!(rt;
         read_plane(
-            &FastTransform,
+            &TransformCoder(FastTransform),
             &raw,
             0,
             &shape(false, 20),
@@ -84,15 +84,15 @@ fn illegal_planes_are_damaged(rt: HostRuntime) {
 }
 
 /// Whether a plane, written over a reference of samples 100, is read back as the reference that writing left.
-fn is_read_back<T: Transform>(t: &T, plane: &[u8; 256], inter: bool, qp: u32) -> bool
+fn is_read_back<C: BlockCoder>(coder: &C, plane: &[u8; 256], inter: bool, qp: u32) -> bool
     requires { qp ≡ 5 }
 {
     let shape = shape(inter, qp);
     let mut left = [100; 256];
     let mut back = [100; 256];
     let mut out = [9; 300];
-    let written = write_plane(t, plane, &mut left, &shape, &mut out, 2);
-    let read = read_plane(t, &out, 2, &shape, written.raw, &mut back);
+    let written = write_plane(coder, plane, &mut left, &shape, &mut out, 2);
+    let read = read_plane(coder, &out, 2, &shape, written.raw, &mut back);
     read == Ok(written.end) && left == back && out[0] == 9 && out[299] == 9
 }
 
@@ -103,7 +103,10 @@ fn the_first_value_alone_is_at_every_place(rt: HostRuntime) {
         panic!(rt; "the words are damaged")
     };
     assert_eq!(rt; (end, q[0]), (4, 2032));
-    assert_eq!(rt; FastTransform.inverse(&dequantise(&q, true)), [8128; 64]);
+    assert_eq!(rt;
+        TransformCoder(FastTransform).samples(&q, &[0; 64], false),
+        [255; 64]
+    );
 }
 
 /// Whether an intra plane of equal samples is written as these words, and becomes the reference.
@@ -112,7 +115,7 @@ fn is_spelled(sample: u8, words: &[u8]) -> bool {
     let mut out = [9; 300];
     let shape = shape(false, 20);
     let written = write_plane(
-        &FastTransform,
+        &TransformCoder(FastTransform),
         &[sample; 256],
         &mut reference,
         &shape,
@@ -149,7 +152,14 @@ fn a_plane_whose_words_are_longer_is_raw(rt: HostRuntime) {
     let mut reference = [7; 256];
     let mut out = [9; 258];
     let shape = shape(false, 1);
-    let written = write_plane(&PlainTransform, &plane, &mut reference, &shape, &mut out, 1);
+    let written = write_plane(
+        &TransformCoder(PlainTransform),
+        &plane,
+        &mut reference,
+        &shape,
+        &mut out,
+        1,
+    );
     assert_eq!(rt;
         written,
         Written {
@@ -169,7 +179,7 @@ fn what_is_written_is_read_back(rt: HostRuntime) {
         plane[k] = ((k * k * 37 + k * 101) % 256) as u8;
     }
     for inter in [false, true] {
-        assert!(rt; is_read_back(&FastTransform, &plane, inter, 5));
-        assert!(rt; is_read_back(&PlainTransform, &[250; 256], inter, 5));
+        assert!(rt; is_read_back(&TransformCoder(FastTransform), &plane, inter, 5));
+        assert!(rt; is_read_back(&TransformCoder(PlainTransform), &[250; 256], inter, 5));
     }
 }

@@ -3,10 +3,9 @@
 ghost use Rattle.std.specs.Prelude.{◌≡◌, ◌≤◌, ◌<◌, ◌+◌, ◌*◌, ◌∷◌, ◌&&◌, length, nat_lt, OnOk, OnErr, List};
 ghost use Rattle.vc_defs.specs.Quantiser.{AreValues};
 ghost use Rattle.vc_defs.specs.Bytes.{Writes};
-ghost use Rattle.vc_defs.specs.Words.{word_bytes};
-ghost use Rattle.vc_defs.specs.Planes.{Block, padded, same_block, canon_entry, entry_bytes, canon_plane, coded_blocks, decoded_plane};
-ghost use Rattle.vc_plane.specs.Entries.{block_with};
-ghost use Rattle.vc_plane.specs.Writing.{IsBlockAdded, IsPlaneWritten, pending_bytes};
+ghost use Rattle.vc_defs.specs.Planes.{Block, padded, same_block, canon_entry, entry_bytes, canon_plane, decoded_plane};
+ghost use Rattle.vc_coder.specs.Blocks.{block_with};
+ghost use Rattle.vc_plane.specs.Writing.{IsBlockAdded, IsPlaneWritten, blocks_in, pending_bytes};
 
 use crate::blocks::show_block;
 use crate::coding::code_block;
@@ -14,11 +13,10 @@ use crate::entries::head;
 use crate::raw::{cap_samples, put_plane};
 use crate::reading::block_count;
 use crate::{Shape, Written};
-use byteorder::{BigEndian, ByteOrder};
 use vc_block::spot_of;
+use vc_coder::BlockCoder;
 use vc_defs::Full;
-use vc_fwht::Transform;
-use vc_rlc::write_block;
+use vc_rlc::{put_word, write_block};
 
 /// The entry that isn't written yet, since further blocks may be like its block, and where it is to be written.
 #[derive(Clone, Copy)]
@@ -29,18 +27,6 @@ pub(crate) struct Pending {
     end: usize,
 }
 
-/// Writes the head of an entry.
-fn put_head(out: &mut [u8], at: usize, head: u16) -> Result<usize, Full>
-    requires { at ≤ length out.old }
-    ensures { Writes out.old out.new at (word_bytes head) result }
-{
-    if out.len() - at < 2 {
-        return Err(Full);
-    }
-    BigEndian::write_u16(&mut out[at..], head);
-    Ok(at + 2)
-}
-
 /// Writes the pending entry.
 fn put_entry(out: &mut [u8], pending: &Pending) -> Result<usize, Full>
     requires place { pending.now.end ≤ length out.old }
@@ -48,7 +34,7 @@ fn put_entry(out: &mut [u8], pending: &Pending) -> Result<usize, Full>
     requires repeats { pending.now.repeats ≤ 4095 }
     ensures { Writes out.old out.new pending.now.end (entry_bytes (canon_entry (block_with pending.now.inter pending.now.values) pending.now.repeats)) result }
 {
-    match put_head(out, pending.end, head(pending.inter, pending.repeats)) {
+    match put_word(out, pending.end, head(pending.inter, pending.repeats)) {
         Ok(end) => write_block(out, end, &pending.values),
         Err(full) => Err(full),
     }
@@ -92,8 +78,8 @@ fn add_block(out: &mut [u8], pending: &mut Pending, inter: bool, q: &[i32; 64]) 
 }
 
 /// Writes the entries of a plane, and shows its blocks in the reference.
-fn write_coded<T: Transform>(
-    t: &T,
+fn write_coded<C: BlockCoder>(
+    coder: &C,
     plane: &[u8],
     reference: &mut [u8],
     shape: &Shape,
@@ -103,14 +89,14 @@ fn write_coded<T: Transform>(
     requires size { length reference.old ≡ shape.now.width * shape.now.height }
     requires some { (0 < shape.now.width) × (0 < shape.now.height) }
     requires qp { (1 ≤ shape.now.qp) × (shape.now.qp ≤ 31) }
-    ensures bytes { Writes out.old out.new 0 (canon_plane (coded_blocks shape.now.inter shape.now.qp plane.now reference.old shape.now.width shape.now.height)) result }
-    ensures samples { OnOk result (reference.new ≡ decoded_plane (coded_blocks shape.now.inter shape.now.qp plane.now reference.old shape.now.width shape.now.height) reference.old shape.now.width shape.now.height) }
+    ensures bytes { Writes out.old out.new 0 (canon_plane (blocks_in shape.now plane.now reference.old)) result }
+    ensures samples { OnOk result (reference.new ≡ decoded_plane (blocks_in shape.now plane.now reference.old) reference.old shape.now.width shape.now.height) }
 {
     let mut q = [0; 64];
     let mut old = [0; 64];
     let spot = spot_of(shape.width, shape.height, 0);
-    let inter = code_block(t, plane, reference, shape, &spot, &mut old, &mut q);
-    show_block(t, &q, shape, inter, &old, reference, &spot);
+    let inter = code_block(coder, plane, reference, shape, &spot, &mut old, &mut q);
+    show_block(coder, &q, shape, inter, &old, reference, &spot);
     let mut pending = Pending {
         inter,
         values: q,
@@ -119,12 +105,12 @@ fn write_coded<T: Transform>(
     };
     for number in 1..block_count(shape) {
         let spot = spot_of(shape.width, shape.height, number);
-        let inter = code_block(t, plane, reference, shape, &spot, &mut old, &mut q);
+        let inter = code_block(coder, plane, reference, shape, &spot, &mut old, &mut q);
         match add_block(out, &mut pending, inter, &q) {
             Ok(()) => {},
             Err(full) => return Err(full),
         }
-        show_block(t, &q, shape, inter, &old, reference, &spot);
+        show_block(coder, &q, shape, inter, &old, reference, &spot);
     }
     put_entry(out, &pending)
 }
@@ -136,8 +122,8 @@ fn write_coded<T: Transform>(
 /// encoder", with the shape's `qp` of 1 to 31. The plane is stored raw exactly where its words take more bytes than
 /// the padded plane has samples, with 254 in place of 255. The reference becomes what a decoder will have. No other
 /// byte of the output changes.
-pub fn write_plane<T: Transform>(
-    t: &T,
+pub fn write_plane<C: BlockCoder>(
+    coder: &C,
     plane: &[u8],
     reference: &mut [u8],
     shape: &Shape,
@@ -152,7 +138,7 @@ pub fn write_plane<T: Transform>(
     ensures { IsPlaneWritten shape.now plane.now reference.old reference.new out.old out.new at result }
 {
     let end = at + 64 * block_count(shape);
-    match write_coded(t, plane, reference, shape, &mut out[at..end]) {
+    match write_coded(coder, plane, reference, shape, &mut out[at..end]) {
         Ok(length) => Written {
             end: at + length,
             raw: false,

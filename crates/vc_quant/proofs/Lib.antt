@@ -1,2 +1,2 @@
-mod Factors
-pub mod Ranges
+mod ProductsAreShifts
+pub mod ValuesStayInRange

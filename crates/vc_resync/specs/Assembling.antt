@@ -5,7 +5,8 @@ use Rattle.std.specs.declared.option.Option.{Option}
 use Rattle.std.specs.declared.option.Option.TheVariants.{Some, None}
 use Rattle.vc_base.specs.declared.Stamp.{Stamp}
 use Rattle.vc_defs.specs.declared.Header.{Header}
-use Rattle.vc_defs.specs.Headers.{most_bytes, is_legal}
+use Rattle.vc_defs.specs.Headers.{is_legal}
+use Rattle.vc_base.specs.Limits.{most_bytes}
 use Rattle.vc_defs.specs.Places.{Frame}
 use Rattle.vc_defs.specs.Finds.{Find, Head, Ended, KeptBytes, nothing_kept, FedStep}
 use Rattle.vc_resync.specs.declared.feeding.Found.{Found}

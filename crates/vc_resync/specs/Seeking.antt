@@ -4,7 +4,7 @@ use Rattle.std.specs.declared.option.Option.TheVariants.{Some, None}
 use Rattle.vc_defs.specs.Headers.{magic}
 use Rattle.vc_defs.specs.Places.{first_magic, start_of_magic}
 
--- The longest end of the bytes that is a front of the magic has so many bytes; and where it has all eight, no magic stands
+-- The longest end of the bytes that is a prefix of the magic has so many bytes; and where it has all eight, no magic stands
 -- before it, else none stands in the bytes.
 pub record Matches (bytes : List ℕ) (matched : ℕ) : Type 0 where
   pub most : matched ≤ 8

@@ -1,6 +1,7 @@
 //! The bytes that are kept between two pieces, and what stands in them.
 
 ghost use Rattle.std.specs.Prelude.{◌≡◌, ◌<◌, ◌≤◌, ◌+◌, ℕ, List, [], ◌++◌, length, take, drop, nat_lt, if◌then◌else◌, IfOk, vec_len, vec_capacity};
+ghost use Rattle.vc_base.specs.Limits.{header_size};
 ghost use Rattle.vc_defs.specs.Headers.{magic};
 ghost use Rattle.vc_defs.specs.Places.{start_of_magic};
 ghost use Rattle.vc_resync.specs.Seeking.{Sought};
@@ -12,6 +13,7 @@ use crate::feeding::Found;
 use crate::seeking::{MAGIC, seek};
 use std::alloc::Global;
 use vc_base::NoMemory;
+use vc_base::limits::HEADER_SIZE;
 use vc_defs::Header;
 
 /// What the kept bytes are.
@@ -32,7 +34,7 @@ pub(crate) enum Stage {
 #[derive(Drop)]
 pub(crate) struct Collected {
     pub(crate) limit: u32,
-    pub(crate) head: [u8; 44],
+    pub(crate) head: [u8; HEADER_SIZE],
     pub(crate) body: Vec<u8>,
     pub(crate) stage: Stage,
 }
@@ -66,7 +68,7 @@ impl Collected {
         let body = Vec::with_capacity(alloc, limit as usize)?;
         Ok(Collected {
             limit,
-            head: [0; 44],
+            head: [0; HEADER_SIZE],
             body,
             stage: Stage::Seeking { matched: 0 },
         })
@@ -90,7 +92,7 @@ impl Collected {
         match &self.stage {
             Stage::Seeking { matched } => *matched,
             Stage::Begun { length } => *length,
-            Stage::Open { .. } => 44 + self.body.len(),
+            Stage::Open { .. } => HEADER_SIZE + self.body.len(),
         }
     }
 
@@ -147,9 +149,9 @@ impl Collected {
         ensures legal { IsLegalAnswer self.old.limit result.1 }
         ensures moves { 0 < length bytes.now → 0 < result.0 }
     {
-        let count = bytes.len().min(44 - there);
+        let count = bytes.len().min(HEADER_SIZE - there);
         put(&mut self.head, there, &bytes[..count]);
-        if there + count < 44 {
+        if there + count < HEADER_SIZE {
             self.stage = Stage::Begun {
                 length: there + count,
             };
@@ -165,8 +167,8 @@ impl Collected {
         ensures limit { self.new.limit ≡ self.old.limit }
         ensures sound { IsSound self.new }
         ensures legal { IsLegalAnswer self.old.limit result }
-        ensures few { length (kept_in self.new) ≤ 44 }
-        ensures taken { (tail bytes : List ℕ) → tail ++ bytes ≡ self.old.head → 0 < length tail → length tail < 44 → Taken self.old.limit tail bytes result self.new.body.items (kept_in self.new) }
+        ensures few { length (kept_in self.new) ≤ header_size }
+        ensures taken { (tail bytes : List ℕ) → tail ++ bytes ≡ self.old.head → 0 < length tail → length tail < header_size → Taken self.old.limit tail bytes result self.new.body.items (kept_in self.new) }
     {
         let (count, matched) = seek(0, &self.head[8..]);
         match vc_header::read(&self.head, self.limit) {
@@ -188,7 +190,7 @@ impl Collected {
         requires sought { Sought 0 (drop 8 self.old.head) count matched }
         ensures limit { self.new.limit ≡ self.old.limit }
         ensures sound { IsSound self.new }
-        ensures few { length (kept_in self.new) ≤ 44 }
+        ensures few { length (kept_in self.new) ≤ header_size }
         ensures kept { kept_in self.new ≡ (if nat_lt matched 8 then start_of_magic (drop 8 self.old.head) else drop count self.old.head) }
     {
         if matched < 8 {
@@ -196,7 +198,7 @@ impl Collected {
             return;
         }
         let head = self.head;
-        let length = 44 - count;
+        let length = HEADER_SIZE - count;
         put(&mut self.head, 0, &head[count..]);
         self.stage = Stage::Begun { length };
     }

@@ -1,7 +1,7 @@
 use Rattle.std.proofs.Common.{arith, ◌+◌, ◌/◌, ◌%◌}
 use Rattle.vc_defs.specs.Planes.{padded_sample}
 use Rattle.vc_block.specs.Places.{block_from}
-use Rattle.vc_block.proofs.Samples.{samples_are}
+use Rattle.vc_block.proofs.BlockIsTaken.{samples_are}
 use Rattle.vc_block.proofs.copy_edge_block.Goals as goal
 
 pub returns : goal.returns

@@ -1,7 +1,7 @@
 use Rattle.std.proofs.Common.{arith, ◌∙◌, ◌+◌, ◌/◌, ◌%◌}
 use Rattle.vc_defs.specs.Planes.{padded_sample}
 use Rattle.vc_block.specs.Places.{block_from}
-use Rattle.vc_block.proofs.Samples.{samples_are, row_taken}
+use Rattle.vc_block.proofs.BlockIsTaken.{samples_are, row_taken}
 use Rattle.vc_block.proofs.copy_inner_block.Goals as goal
 
 pub loop-row-preserved : goal.loop-row-preserved

@@ -1,6 +1,6 @@
 use Rattle.std.proofs.Common.{◌≡◌, ◌∙◌, ap, ◌+◌, ◌*◌, ◌/◌, ◌%◌, ◌≤◌, arith}
 use Rattle.vc_defs.specs.Planes.{blocks_across}
-use Rattle.vc_block.proofs.Placing.{row_written, row_kept}
+use Rattle.vc_block.proofs.BlockIsPlaced.{row_written, row_kept}
 use Rattle.vc_block.proofs.set_inner_block.Goals as goal
 
 pub loop-row-preserved : goal.loop-row-preserved

@@ -4,11 +4,11 @@ use mir.Val.{to_z}
 use Rattle.std.specs.Prelude.{◌*ℤ◌}
 use Rattle.vc_defs.specs.Walsh.{walsh, entry_at, sum_below}
 use Rattle.vc_fwht.specs.Passes.{column_entry}
-use Rattle.vc_fwht.proofs.Stages.{Within}
-use Rattle.vc_fwht.proofs.Matrix.{walsh_is_sign}
-use Rattle.vc_fwht.proofs.Sums.{signed_within}
-use Rattle.vc_fwht.proofs.Butterflies.{read_back}
-use Rattle.vc_fwht.proofs.Plain.{sum_step}
+use Rattle.vc_fwht.proofs.MachineSumsAreExact.{Within}
+use Rattle.vc_fwht.proofs.MatrixEntriesAreSigns.{walsh_is_sign}
+use Rattle.vc_fwht.proofs.SignedSumsAreBounded.{signed_within}
+use Rattle.vc_fwht.proofs.ButterfliesAreSums.{read_back}
+use Rattle.vc_fwht.proofs.PlainSumsStayInRange.{sum_step}
 use Rattle.vc_fwht.proofs.column_sum.Goals as goal
 
 pub overflow_add-sum : goal.overflow_add-sum

@@ -1,7 +1,7 @@
 use Rattle.std.proofs.Common.{arith}
 use Rattle.vc_defs.specs.Quantiser.{dequantised}
-use Rattle.vc_defs.proofs.Tables.{table_is}
-use Rattle.vc_quant.proofs.Ranges.{dequantised_in_range}
+use Rattle.vc_defs.proofs.ListsByPlace.{table_is}
+use Rattle.vc_quant.proofs.ValuesStayInRange.{dequantised_in_range}
 use Rattle.vc_quant.proofs.dequantise_as.Goals as goal
 
 pub returns-clause-dequantised : goal.returns-clause-dequantised

@@ -1,7 +1,7 @@
 use Rattle.std.proofs.Common.{arith}
 use Rattle.vc_defs.specs.Quantiser.{quantised}
-use Rattle.vc_defs.proofs.Tables.{table_is}
-use Rattle.vc_quant.proofs.Ranges.{quantised_in_range}
+use Rattle.vc_defs.proofs.ListsByPlace.{table_is}
+use Rattle.vc_quant.proofs.ValuesStayInRange.{quantised_in_range}
 use Rattle.vc_quant.proofs.quantise_as.Goals as goal
 
 pub returns-clause-quantised : goal.returns-clause-quantised

@@ -1,5 +1,5 @@
 use Rattle.std.proofs.Common.{arith}
-use Rattle.vc_raw.proofs.Filling.{grey_is}
+use Rattle.vc_raw.proofs.RowsAreTheGenerators.{grey_is}
 use Rattle.vc_raw.proofs.fill_grey.Goals as goal
 
 pub returns : goal.returns

@@ -1,5 +1,5 @@
 use Rattle.std.proofs.Common.{arith}
-use Rattle.vc_raw.proofs.Filling.{yuyv_is}
+use Rattle.vc_raw.proofs.RowsAreTheGenerators.{yuyv_is}
 use Rattle.vc_raw.proofs.fill_packed.Goals as goal
 
 pub returns : goal.returns

@@ -1,5 +1,5 @@
 use Rattle.std.proofs.Common.{◌∙◌, arith}
-use Rattle.vc_raw.proofs.Filling.{rows_more}
+use Rattle.vc_raw.proofs.RowsAreTheGenerators.{rows_more}
 use Rattle.vc_raw.proofs.fill_rows.Goals as goal
 
 pub loop-y-preserved : goal.loop-y-preserved

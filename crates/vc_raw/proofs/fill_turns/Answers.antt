@@ -1,5 +1,5 @@
 use Rattle.std.proofs.Common.{arith, ◌/◌}
-use Rattle.vc_raw.proofs.Filling.{half_by_half, twice_half, nv12_is}
+use Rattle.vc_raw.proofs.RowsAreTheGenerators.{half_by_half, twice_half, nv12_is}
 use Rattle.vc_raw.proofs.fill_turns.Goals as goal
 
 pub fill_rows-requires-2-clause-inside : goal.fill_rows-requires-2-clause-inside

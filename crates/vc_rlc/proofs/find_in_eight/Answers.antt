@@ -5,7 +5,7 @@ use mir.Val.{of_z}
 use Rattle.std.proofs.lemmas.List.{length-set}
 use Rattle.vc_defs.specs.Words.{in_scan_order}
 use Rattle.vc_rlc.specs.Finding.{AreFound}
-use Rattle.vc_rlc.proofs.Finding.{zero_passed, value_found}
+use Rattle.vc_rlc.proofs.ValuesAreFound.{zero_passed, value_found}
 use Rattle.vc_rlc.proofs.find_in_eight.Goals as goal
 use Rattle.vc_rlc.proofs.find_in_eight.Goals.{then-value_at-ne0, else-value_at-ne0}
 

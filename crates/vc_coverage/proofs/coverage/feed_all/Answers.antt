@@ -3,7 +3,7 @@ use Rattle.std.specs.Prelude.{true}
 use Rattle.vc_resync.specs.Assembling.{is_told}
 use Rattle.vc_coverage.specs.declared.reach.Reach.{Reach}
 use Rattle.vc_coverage.specs.Covering.{HasRead}
-use Rattle.vc_coverage.proofs.Turns.{Stands, Behind, behind}
+use Rattle.vc_coverage.proofs.FeedsReadOn.{Stands, Behind, behind}
 use Rattle.vc_coverage.proofs.coverage.feed_all.Goals as goal
 use Rattle.vc_coverage.proofs.coverage.feed_all.Goals.{After-feed-count}
 

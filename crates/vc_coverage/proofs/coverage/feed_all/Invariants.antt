@@ -1,6 +1,6 @@
 use Rattle.std.proofs.Common.{ℕ, List, ◌+◌, ◌-◌, ◌≤◌, ◌++◌, length, take}
 use Rattle.vc_coverage.specs.Covering.{HasRead}
-use Rattle.vc_coverage.proofs.Turns.{Stands, ahead}
+use Rattle.vc_coverage.proofs.FeedsReadOn.{Stands, ahead}
 use Rattle.vc_coverage.proofs.coverage.feed_all.Given as goal
 
 abbrev pub invariant-loop : goal.invariant-loop

@@ -6,7 +6,7 @@ use Rattle.vc_defs.specs.Decoder.{decode}
 use Rattle.vc_work.specs.Streams.{picture_of, decoder_of}
 use Rattle.vc_work.specs.Runs.{HasFrames, HasAll, fresh_bytes}
 use Rattle.vc_work.specs.declared.work.Sort.{Sort}
-use Rattle.vc_engine.proofs.Streams.{fresh_is, fresh_long, stream_has, same_step, leaves, Leaves, decode_does, dest_is}
+use Rattle.vc_engine.proofs.StreamRunsAreDecoded.{fresh_is, fresh_long, stream_has, same_step, leaves, Leaves, decode_does, dest_is}
 use Rattle.vc_engine.proofs.runs.run_decode.Goals as goal
 
 pub returns-clause-run : goal.returns-clause-run
@@ -30,7 +30,18 @@ returns-clause-run g c =
     record {
       rest = record { sort = refl; bytes = refl; used = refl; stamp = refl; format = refl; limit = refl; rates = refl; geometry = refl };
       done = decode_does w
-          (record { sort = w.sort; source = record { payload = w.source.payload; used = w.source.used; cursor = w.source.cursor + c.decode_run-count.result.0; stamp = w.source.stamp }; dest = Some (with_items c.in-Some.dest c.decode_run-count.new.dest); reference = Some after; geometry = w.geometry; assembly = Some b; format = w.format; limit = w.limit; rates = w.rates })
+          (record {
+            sort = w.sort;
+            source = record { payload = w.source.payload; used = w.source.used; cursor = w.source.cursor + c.decode_run-count.result.0; stamp = w.source.stamp };
+            dest = Some
+                (with_items c.in-Some.dest c.decode_run-count.new.dest);
+            reference = Some after;
+            geometry = w.geometry;
+            assembly = Some b;
+            format = w.format;
+            limit = w.limit;
+            rates = w.rates;
+          })
           b after c.decode_run-count.result.0 d c.outcome_of.result c.requires.sort left h.cursor
           (omega (arith, c.decode_run-count.ensures.inside, fresh_long c.deref.result.now w.source.cursor w.source.used))
           c.outcome_of.ensures refl refl refl

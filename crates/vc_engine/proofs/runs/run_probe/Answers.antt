@@ -2,7 +2,7 @@ use Rattle.std.proofs.Common.{◌≡◌, ap, refl, subst, arith, Some, None, Lis
 use Rattle.vc_work.specs.Streams.{picture_of}
 use Rattle.vc_work.specs.Runs.{HasHeaders, HasAll}
 use Rattle.vc_work.specs.declared.work.Sort.{Sort}
-use Rattle.vc_engine.proofs.Streams.{fresh_is, fresh_long, stream_has, leaves, Leaves, probe_does}
+use Rattle.vc_engine.proofs.StreamRunsAreDecoded.{fresh_is, fresh_long, stream_has, leaves, Leaves, probe_does}
 use Rattle.vc_engine.proofs.runs.run_probe.Goals as goal
 
 pub returns-clause-run : goal.returns-clause-run
@@ -21,7 +21,17 @@ returns-clause-run c =
     record {
       rest = record { sort = refl; bytes = refl; used = refl; stamp = refl; format = refl; limit = refl; rates = refl; geometry = refl };
       done = probe_does w
-          (record { sort = w.sort; source = record { payload = w.source.payload; used = w.source.used; cursor = w.source.cursor + c.probe_run-count.result.0; stamp = w.source.stamp }; dest = w.dest; reference = w.reference; geometry = w.geometry; assembly = Some b; format = w.format; limit = w.limit; rates = w.rates })
+          (record {
+            sort = w.sort;
+            source = record { payload = w.source.payload; used = w.source.used; cursor = w.source.cursor + c.probe_run-count.result.0; stamp = w.source.stamp };
+            dest = w.dest;
+            reference = w.reference;
+            geometry = w.geometry;
+            assembly = Some b;
+            format = w.format;
+            limit = w.limit;
+            rates = w.rates;
+          })
           b c.probe_run-count.result.0 d c.outcome_of.result c.requires.sort left h.cursor
           (omega (arith, c.probe_run-count.ensures.inside, fresh_long c.deref.result.now w.source.cursor w.source.used))
           c.probe_run-count.ensures.of_headers c.outcome_of.ensures refl none refl refl;

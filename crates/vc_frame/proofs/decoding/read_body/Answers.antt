@@ -1,4 +1,4 @@
-use Rattle.vc_frame.proofs.WholeBodies.{body_read, body_long, body_none}
+use Rattle.vc_frame.proofs.BodiesAreWhole.{body_read, body_long, body_none}
 use Rattle.vc_frame.proofs.decoding.read_body.Goals as goal
 
 pub returns-in-Ok : goal.returns-in-Ok

@@ -1,4 +1,4 @@
-use Rattle.vc_frame.proofs.ComesBack.{frames_come_back}
+use Rattle.vc_frame.proofs.FramesComeBack.{frames_come_back}
 use Rattle.vc_frame.proofs.laws.frames_come_back.Goals as goal
 
 pub returns : goal.returns

@@ -1,6 +1,6 @@
 use Rattle.std.proofs.Common.{◌≡◌, ◌∙◌, sym, length, take, arith, length-take}
-use Rattle.vc_frame.proofs.Pictures.{cut_is_picture}
-use Rattle.vc_frame.proofs.RawOrders.{packed, turned_else, parted_packed, parted_turned}
+use Rattle.vc_frame.proofs.AreasArePictures.{cut_is_picture}
+use Rattle.vc_frame.proofs.RawOrdersBothWays.{packed, turned_else, parted_packed, parted_turned}
 use Rattle.vc_frame.proofs.order.part.Goals as goal
 
 pub gather-requires : goal.gather-requires
@@ -12,7 +12,16 @@ gather-requires-then-eq c k below =
 
 pub gather-requires-then-eq-2 : goal.gather-requires-then-eq-2
 gather-requires-then-eq-2 c k below =
-    omega (arith, (packed c.args.fourcc c.args.geometry.now c.requires.raw_format (sym c.eq.ensures ∙ c.if-eq.true)).twice, c.sample_counts-samples.ensures.luma, c.sample_counts-samples.ensures.chroma, c.sample_counts-samples.ensures.total, c.requires.whole, length-take c.sample_counts-samples.result.1 c.split_at_mut-first.result.1.now)
+    omega (
+      arith,
+      (packed c.args.fourcc c.args.geometry.now c.requires.raw_format (sym c.eq.ensures ∙ c.if-eq.true)).twice,
+      c.sample_counts-samples.ensures.luma,
+      c.sample_counts-samples.ensures.chroma,
+      c.sample_counts-samples.ensures.total,
+      c.requires.whole,
+      length-take
+          c.sample_counts-samples.result.1 c.split_at_mut-first.result.1.now,
+    )
 
 pub returns-then-eq-clause-planes : goal.returns-then-eq-clause-planes
 returns-then-eq-clause-planes c =

@@ -2,7 +2,7 @@ use Rattle.std.proofs.Common.{◌≤◌, ◌+◌, ◌/◌, ◌%◌, ◌∙◌, �
 use Rattle.std.proofs.Math.ListN.{length-set}
 use Rattle.std.proofs.lemmas.List.FromFn.{fill_by_all}
 use Rattle.vc_defs.specs.Raw.{sample_at}
-use Rattle.vc_frame.proofs.RawOrders.{turns_more}
+use Rattle.vc_frame.proofs.RawOrdersBothWays.{turns_more}
 use Rattle.vc_frame.proofs.order.put_in_turns.Goals as goal
 
 pub loop-k-preserved : goal.loop-k-preserved

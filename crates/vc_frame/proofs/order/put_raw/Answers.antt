@@ -1,7 +1,7 @@
 use Rattle.std.proofs.Common.{◌≡◌, ◌∙◌, sym, ap, ◌+◌, ◌*◌, ◌++◌, List, ℕ, length, take, drop, refl, arith, length-take}
 use Rattle.vc_defs.specs.Bodies.{plane_shapes}
 use Rattle.vc_defs.specs.Raw.{cut_into, raw_of}
-use Rattle.vc_frame.proofs.RawOrders.{packed, turned_where, shown_packed, shown_turned, shown_planar}
+use Rattle.vc_frame.proofs.RawOrdersBothWays.{packed, turned_where, shown_packed, shown_turned, shown_planar}
 use Rattle.vc_frame.proofs.order.put_raw.Goals as goal
 
 pub pack-requires-clause-luma : goal.pack-requires-clause-luma
@@ -10,7 +10,16 @@ pack-requires-clause-luma c =
 
 pub pack-requires-clause-room : goal.pack-requires-clause-room
 pack-requires-clause-room c =
-    omega (arith, (packed c.args.fourcc c.args.geometry.now c.requires.raw_format (sym c.eq.ensures ∙ c.if-eq.true)).twice, c.sample_counts-samples.ensures.luma, c.sample_counts-samples.ensures.chroma, c.sample_counts-samples.ensures.total, c.requires.room, c.split_at-2.ensures.front_len, length-take (c.sample_counts-samples.result.0 + 2 * c.sample_counts-samples.result.1) c.args.out.now)
+    omega (
+      arith,
+      (packed c.args.fourcc c.args.geometry.now c.requires.raw_format (sym c.eq.ensures ∙ c.if-eq.true)).twice,
+      c.sample_counts-samples.ensures.luma,
+      c.sample_counts-samples.ensures.chroma,
+      c.sample_counts-samples.ensures.total,
+      c.requires.room,
+      c.split_at-2.ensures.front_len,
+      length-take (c.sample_counts-samples.result.0 + 2 * c.sample_counts-samples.result.1) c.args.out.now,
+    )
 
 pub returns-then-eq : goal.returns-then-eq
 returns-then-eq c =

@@ -1,6 +1,6 @@
 use Rattle.std.proofs.Common.{◌≡◌, ◌+◌, ◌*◌, ap, sym, length, drop, ◌-◌, arith, length-take, length-drop}
 use Rattle.vc_work.specs.References.{plane_total}
-use Rattle.vc_frame.proofs.PlaneSteps.{some_first}
+use Rattle.vc_frame.proofs.PlanesOneByOne.{some_first}
 use Rattle.vc_frame.proofs.planes.+read_planes.Goals as goal
 
 pub read_planes-requires : goal.read_planes-requires

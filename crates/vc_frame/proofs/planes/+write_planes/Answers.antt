@@ -2,7 +2,7 @@ use Rattle.std.proofs.Common.{◌≡◌, ◌≤◌, ◌+◌, ◌*◌, ap, length
 use Rattle.vc_defs.specs.Bodies.{padded_total}
 use Rattle.vc_defs.specs.Planes.{padded, written_plane}
 use Rattle.vc_work.specs.References.{plane_total}
-use Rattle.vc_frame.proofs.PlaneSteps.{some_first, plane_short, written_more}
+use Rattle.vc_frame.proofs.PlanesOneByOne.{some_first, plane_short, written_more}
 use Rattle.vc_frame.proofs.planes.+write_planes.Goals as goal
 
 pub write_planes-rest-requires : goal.write_planes-rest-requires

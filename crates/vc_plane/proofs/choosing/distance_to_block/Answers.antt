@@ -1,6 +1,6 @@
 use Rattle.std.proofs.Common.{◌∙◌, get_or}
 use Rattle.std.specs.Prelude.{◌-ℤ◌, pos, unsigned_abs}
-use Rattle.vc_plane.proofs.Sums.{same_sums}
+use Rattle.vc_plane.proofs.SumsByPlace.{same_sums}
 use Rattle.vc_plane.proofs.choosing.distance_to_block.Goals as goal
 
 pub returns : goal.returns

@@ -1,7 +1,7 @@
 use Rattle.std.proofs.Common.{◌∙◌, ap, get_or, replicate}
 use Rattle.std.specs.Prelude.{◌-ℤ◌, pos, unsigned_abs}
 use Rattle.std.proofs.lemmas.List.{get_or-replicate}
-use Rattle.vc_plane.proofs.Sums.{same_sums}
+use Rattle.vc_plane.proofs.SumsByPlace.{same_sums}
 use Rattle.vc_plane.proofs.choosing.distance_to_number.Goals as goal
 
 pub returns : goal.returns

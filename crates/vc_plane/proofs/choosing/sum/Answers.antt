@@ -1,7 +1,7 @@
 use Rattle.std.proofs.Common.{◌≡◌, ◌∙◌, sym, ap, ◌+◌, get_or, arith}
 use Rattle.std.specs.Prelude.{sum_by}
 use Rattle.std.specs.List.{range_with_len}
-use Rattle.vc_plane.proofs.Sums.{one_more}
+use Rattle.vc_plane.proofs.SumsByPlace.{one_more}
 use Rattle.vc_plane.proofs.choosing.sum.Goals as goal
 
 pub loop-k-preserved : goal.loop-k-preserved

@@ -2,8 +2,8 @@ use Rattle.std.proofs.Common.{◌≡◌, sym, ◌+◌, ◌<◌, arith}
 use Rattle.std.specs.Prelude.{true}
 use Rattle.vc_defs.specs.Words.{in_scan_order}
 use Rattle.vc_defs.specs.Planes.{is_head, repeats_of}
-use Rattle.vc_defs.proofs.Parsing.{between_read}
-use Rattle.vc_plane.proofs.EntrySteps.{entry_step, entry_is, head_fits, no_values, no_bytes, none_between, are_bytes}
+use Rattle.vc_defs.proofs.BlocksAreRead.{between_read}
+use Rattle.vc_plane.proofs.EntryIsOneStep.{entry_step, entry_is, head_fits, no_values, no_bytes, none_between, are_bytes}
 use Rattle.vc_plane.proofs.entries.read_entry.Goals as goal
 
 pub returns-in-Err-clause-damaged : goal.returns-in-Err-clause-damaged

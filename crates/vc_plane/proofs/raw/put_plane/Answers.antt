@@ -1,6 +1,6 @@
 use Rattle.std.proofs.Common.{◌≡◌, ◌∙◌, subst, ℕ, ◌<◌, ◌≤◌, ◌+◌, ◌*◌, ◌/◌, ◌%◌, get_or, arith}
 use Rattle.vc_defs.specs.Planes.{padded, padded_sample, raw_sample}
-use Rattle.vc_plane.proofs.RawSamples.{row_inside, row_filled, raw_plane_is}
+use Rattle.vc_plane.proofs.RawPlanesBothWays.{row_inside, row_filled, raw_plane_is}
 use Rattle.vc_plane.proofs.raw.put_plane.Goals as goal
 
 pub put_row-requires-clause-room : goal.put_row-requires-clause-room

@@ -1,6 +1,6 @@
 use Rattle.std.proofs.Common.{◌≡◌, ◌∙◌, subst, ℕ, ◌<◌, ◌+◌, ◌*◌, ◌/◌, ◌%◌, get_or, arith}
 use Rattle.vc_defs.specs.Planes.{padded}
-use Rattle.vc_plane.proofs.RawSamples.{row_more, unpadded_is}
+use Rattle.vc_plane.proofs.RawPlanesBothWays.{row_more, unpadded_is}
 use Rattle.vc_plane.proofs.raw.unpad.Goals as goal
 
 pub loop-row-preserved : goal.loop-row-preserved

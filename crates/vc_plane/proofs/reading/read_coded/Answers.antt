@@ -1,12 +1,10 @@
 use Rattle.std.proofs.Common.{◌≡◌, ◌∙◌, refl, subst, ℕ, arith, ◌+◌, ◌-◌, ◌≤◌, [], ◌++◌, replicate, drop}
 use Rattle.std.specs.declared.option.Option.TheVariants.{Some, None}
-use Rattle.std.specs.Prelude.{not}
-use Rattle.vc_defs.specs.Walsh.{transformed}
-use Rattle.vc_defs.specs.Quantiser.{dequantised}
 use Rattle.vc_defs.specs.Planes.{block_count, blocks_from, decoded_plane}
-use Rattle.vc_plane.specs.Entries.{block_with, IsEntryRead}
-use Rattle.vc_plane.proofs.Shown.{AreDecoded, none_decoded, more_decoded, all_decoded}
-use Rattle.vc_plane.proofs.Parsed.{none_parsed, more_parsed, not_parsed, all_parsed, plane_of_blocks, no_plane}
+use Rattle.vc_coder.specs.Blocks.{block_with}
+use Rattle.vc_plane.specs.Entries.{IsEntryRead}
+use Rattle.vc_plane.proofs.BlocksAreShownInTurn.{AreDecoded, none_decoded, more_decoded, all_decoded}
+use Rattle.vc_plane.proofs.EntriesReadSoFar.{none_parsed, more_parsed, not_parsed, all_parsed, plane_of_blocks, no_plane}
 use Rattle.vc_plane.proofs.reading.read_coded.Goals as goal
 
 pub loop-next-init : goal.loop-next-init
@@ -36,8 +34,8 @@ loop-next-preserved g c =
         parsed = more_parsed c.args.body.now c.args.at c.args.shape.now.inter c.block_count-count.result c.loop-next.next c.loop-next.end so_far.blocks c.in-Ok.entry.inter c.in-Ok.entry.repeats
             (c.loop-next.next + c.in-Ok.entry.repeats + 1) c.in-Ok.entry.end c.read_entry.new.q c.loop-next-test.true refl so_far.parsed entry;
         decoded = more_decoded so_far.blocks c.args.reference.now c.loop-next.reference c.show_blocks.new.reference c.args.shape.now.width c.args.shape.now.height c.loop-next.next (c.in-Ok.entry.repeats + 1)
-            (c.loop-next.next + c.in-Ok.entry.repeats + 1) (transformed (dequantised c.read_entry.new.q (not c.in-Ok.entry.inter))) c.read_entry.new.q c.in-Ok.entry.inter c.requires.some.0 c.requires.some.1 (omega (arith, most, c.block_count-count.ensures)) sum so_far.parsed.many
-            so_far.decoded c.show_blocks.ensures refl;
+            (c.loop-next.next + c.in-Ok.entry.repeats + 1) (block_with c.in-Ok.entry.inter c.read_entry.new.q) c.requires.some.0 c.requires.some.1 (omega (arith, most, c.block_count-count.ensures)) sum so_far.parsed.many
+            so_far.decoded c.show_blocks.ensures;
       };
     }
 

@@ -1,5 +1,5 @@
 use Rattle.std.proofs.Common.{◌-◌, ◌≡◌, ◌≤◌, ◌*◌, length}
-use Rattle.vc_plane.proofs.Parsed.{AreRead}
+use Rattle.vc_plane.proofs.EntriesReadSoFar.{AreRead}
 use Rattle.vc_plane.proofs.reading.read_coded.Given as goal
 
 abbrev pub invariant-loop-next : goal.invariant-loop-next

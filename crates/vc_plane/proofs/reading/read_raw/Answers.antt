@@ -4,7 +4,7 @@ use Rattle.std.specs.List.{list_all}
 use Rattle.std.specs.declared.option.Option.TheVariants.{Some}
 use Rattle.std.proofs.lemmas.List.{drop-drop}
 use Rattle.vc_defs.specs.Planes.{padded, block_count, unpadded}
-use Rattle.vc_plane.proofs.RawSamples.{padded_size, raw_too_short, raw_not_samples, raw_read}
+use Rattle.vc_plane.proofs.RawPlanesBothWays.{padded_size, raw_too_short, raw_not_samples, raw_read}
 use Rattle.vc_plane.proofs.reading.read_raw.Goals as goal
 
 -- the size of the padded plane, as the code has it

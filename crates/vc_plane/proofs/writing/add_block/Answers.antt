@@ -3,8 +3,8 @@ use Rattle.std.specs.Prelude.{true, nat_lt}
 use Rattle.std.proofs.lemmas.Bool.{and_parts}
 use Rattle.std.proofs.lemmas.Bool.Decides.{nat_tests}
 use Rattle.vc_defs.specs.Planes.{same_block}
-use Rattle.vc_plane.specs.Entries.{block_with}
-use Rattle.vc_plane.proofs.WritingSteps.{same_block_is, repeated_left, begun_left, begun_full}
+use Rattle.vc_coder.specs.Blocks.{block_with}
+use Rattle.vc_plane.proofs.WritingByWhatIsLeft.{same_block_is, repeated_left, begun_left, begun_full}
 use Rattle.vc_plane.proofs.writing.add_block.Goals as goal
 
 pub returns-then-may_repeat-clause-ok : goal.returns-then-may_repeat-clause-ok
@@ -27,4 +27,5 @@ returns-clause-ok c = record {
 }
 
 pub returns-in-Err-clause-full : goal.returns-in-Err-clause-full
-returns-in-Err-clause-full c = λ blocks. begun_full c.args.out.now c.put_entry.new.out c.args.pending.now.end (block_with c.args.pending.now.inter c.args.pending.now.values) (block_with c.args.inter c.args.q.now) c.args.pending.now.repeats blocks c.in-Err.full (sym c.if-may_repeat.ensures) c.in-Err.ensures
+returns-in-Err-clause-full c = λ blocks. begun_full c.args.out.now c.put_entry.new.out c.args.pending.now.end (block_with c.args.pending.now.inter c.args.pending.now.values) (block_with c.args.inter c.args.q.now) c.args.pending.now.repeats blocks c.in-Err.full
+    (sym c.if-may_repeat.ensures) c.in-Err.ensures

@@ -1,4 +1,4 @@
-use Rattle.vc_plane.proofs.WritingSteps.{same_test}
+use Rattle.vc_plane.proofs.WritingByWhatIsLeft.{same_test}
 use Rattle.vc_plane.proofs.writing.is_same.Goals as goal
 
 pub returns-then-pending-inter : goal.returns-then-pending-inter

@@ -1,12 +1,9 @@
 use Rattle.std.proofs.Common.{refl, ◌≡◌, ◌∙◌, subst, ℕ, ◌+◌, ◌<◌, [], arith}
-use Rattle.std.specs.Prelude.{not}
-use Rattle.vc_defs.specs.Walsh.{transformed}
-use Rattle.vc_defs.specs.Quantiser.{dequantised}
 use Rattle.vc_defs.specs.Planes.{block_count, block_of, coded_block, coded_blocks, decoded_plane}
-use Rattle.vc_plane.specs.Entries.{block_with}
+use Rattle.vc_coder.specs.Blocks.{block_with}
 use Rattle.vc_plane.specs.Samples.{AreShown}
-use Rattle.vc_plane.proofs.Shown.{AreDecoded, none_decoded, all_decoded}
-use Rattle.vc_plane.proofs.Coded.{length-coded_blocks, block_coded, first_coded, more_coded, not_coded, all_coded, count_some, on_ok}
+use Rattle.vc_plane.proofs.BlocksAreShownInTurn.{AreDecoded, none_decoded, all_decoded}
+use Rattle.vc_plane.proofs.BlocksAreCodedInTurn.{length-coded_blocks, block_coded, first_coded, more_coded, not_coded, all_coded, count_some, on_ok}
 use Rattle.vc_plane.proofs.writing.write_coded.Goals as goal
 
 pub loop-number-init : goal.loop-number-init
@@ -15,11 +12,13 @@ loop-number-init g c =
     record {
       size = c.show_block.auto.reference ∙ c.requires.size;
       end = c.block_count-number-end.ensures;
-      coded = first_coded (coded_blocks c.args.shape.now.inter c.args.shape.now.qp c.args.plane.now c.args.reference.now c.args.shape.now.width c.args.shape.now.height) c.args.reference.now c.show_block.new.reference c.args.shape.now.width c.args.shape.now.height c.args.out.now c.code_block-inter.result c.code_block-inter.new.q (transformed (dequantised c.code_block-inter.new.q (not c.code_block-inter.result))) c.requires.some.0 c.requires.some.1 some
+      coded = first_coded (coded_blocks c.args.shape.now.inter c.args.shape.now.qp c.args.plane.now c.args.reference.now c.args.shape.now.width c.args.shape.now.height) c.args.reference.now c.show_block.new.reference c.args.shape.now.width c.args.shape.now.height c.args.out.now
+          c.code_block-inter.result c.code_block-inter.new.q c.requires.some.0 c.requires.some.1 some
           (omega (arith, some, length-coded_blocks c.args.shape.now.inter c.args.shape.now.qp c.args.plane.now c.args.reference.now c.args.shape.now.width c.args.shape.now.height)) c.code_block-inter.ensures.range
           (block_coded c.args.shape.now.inter c.args.shape.now.qp c.args.plane.now c.args.reference.now c.args.reference.now c.args.shape.now.width c.args.shape.now.height 0 (block_with c.code_block-inter.result c.code_block-inter.new.q) [] c.requires.some.0 c.requires.some.1 some
-          (none_decoded [] c.args.reference.now c.args.shape.now.width c.args.shape.now.height) (subst (λ (n : ℕ). block_with c.code_block-inter.result c.code_block-inter.new.q ≡ coded_block c.args.shape.now.inter c.args.shape.now.qp (block_of c.args.plane.now c.args.shape.now.width c.args.shape.now.height n) (block_of c.args.reference.now c.args.shape.now.width c.args.shape.now.height n)) c.spot_of-spot.ensures.number c.code_block-inter.ensures.coded))
-          (subst (λ (n : ℕ). AreShown c.args.reference.now c.show_block.new.reference c.args.shape.now.width c.args.shape.now.height n (n + 1) (transformed (dequantised c.code_block-inter.new.q (not c.code_block-inter.result))) c.code_block-inter.result) c.spot_of-spot.ensures.number c.show_block.ensures) refl;
+          (none_decoded [] c.args.reference.now c.args.shape.now.width c.args.shape.now.height) (subst (λ (n : ℕ). block_with c.code_block-inter.result c.code_block-inter.new.q ≡ coded_block c.args.shape.now.inter c.args.shape.now.qp
+          (block_of c.args.plane.now c.args.shape.now.width c.args.shape.now.height n) (block_of c.args.reference.now c.args.shape.now.width c.args.shape.now.height n)) c.spot_of-spot.ensures.number c.code_block-inter.ensures.coded))
+          (subst (λ (n : ℕ). AreShown c.args.reference.now c.show_block.new.reference c.args.shape.now.width c.args.shape.now.height n (n + 1) (block_with c.code_block-inter.result c.code_block-inter.new.q)) c.spot_of-spot.ensures.number c.show_block.ensures);
     }
 
 pub add_block-requires-clause-place : goal.add_block-requires-clause-place
@@ -38,21 +37,29 @@ loop-number-preserved g c =
     record {
       size = c.show_block-in-loop-number.auto.reference ∙ c.loop-number.invariant.size;
       end = c.loop-number.invariant.end;
-      coded = more_coded (coded_blocks c.args.shape.now.inter c.args.shape.now.qp c.args.plane.now c.args.reference.now c.args.shape.now.width c.args.shape.now.height) c.args.reference.now c.loop-number.reference c.show_block-in-loop-number.new.reference c.args.shape.now.width c.args.shape.now.height c.loop-number.number c.args.out.now c.loop-number.out c.add_block.new.out c.loop-number.pending c.add_block.new.pending
-          c.code_block-inter-in-loop-number.result c.code_block-inter-in-loop-number.new.q (transformed (dequantised c.code_block-inter-in-loop-number.new.q (not c.code_block-inter-in-loop-number.result))) c.requires.some.0 c.requires.some.1 inside (omega (arith, inside, length-coded_blocks c.args.shape.now.inter c.args.shape.now.qp c.args.plane.now c.args.reference.now c.args.shape.now.width c.args.shape.now.height)) c.code_block-inter-in-loop-number.ensures.range
+      coded = more_coded (coded_blocks c.args.shape.now.inter c.args.shape.now.qp c.args.plane.now c.args.reference.now c.args.shape.now.width c.args.shape.now.height) c.args.reference.now c.loop-number.reference c.show_block-in-loop-number.new.reference c.args.shape.now.width
+          c.args.shape.now.height c.loop-number.number c.args.out.now c.loop-number.out c.add_block.new.out c.loop-number.pending c.add_block.new.pending
+          c.code_block-inter-in-loop-number.result c.code_block-inter-in-loop-number.new.q c.requires.some.0 c.requires.some.1 inside
+          (omega (arith, inside, length-coded_blocks c.args.shape.now.inter c.args.shape.now.qp c.args.plane.now c.args.reference.now c.args.shape.now.width c.args.shape.now.height)) c.code_block-inter-in-loop-number.ensures.range
           (block_coded c.args.shape.now.inter c.args.shape.now.qp c.args.plane.now c.args.reference.now c.loop-number.reference c.args.shape.now.width c.args.shape.now.height c.loop-number.number (block_with c.code_block-inter-in-loop-number.result c.code_block-inter-in-loop-number.new.q)
-          (coded_blocks c.args.shape.now.inter c.args.shape.now.qp c.args.plane.now c.args.reference.now c.args.shape.now.width c.args.shape.now.height) c.requires.some.0 c.requires.some.1 inside so_far.decoded (subst (λ (n : ℕ). block_with c.code_block-inter-in-loop-number.result c.code_block-inter-in-loop-number.new.q ≡ coded_block c.args.shape.now.inter c.args.shape.now.qp (block_of c.args.plane.now c.args.shape.now.width c.args.shape.now.height n) (block_of c.loop-number.reference c.args.shape.now.width c.args.shape.now.height n)) c.spot_of-spot-in-loop-number.ensures.number c.code_block-inter-in-loop-number.ensures.coded))
-          so_far c.in-Ok.ensures.ok (subst (λ (n : ℕ). AreShown c.loop-number.reference c.show_block-in-loop-number.new.reference c.args.shape.now.width c.args.shape.now.height n (n + 1) (transformed (dequantised c.code_block-inter-in-loop-number.new.q (not c.code_block-inter-in-loop-number.result))) c.code_block-inter-in-loop-number.result) c.spot_of-spot-in-loop-number.ensures.number c.show_block-in-loop-number.ensures) refl;
+          (coded_blocks c.args.shape.now.inter c.args.shape.now.qp c.args.plane.now c.args.reference.now c.args.shape.now.width c.args.shape.now.height) c.requires.some.0 c.requires.some.1 inside so_far.decoded
+          (subst (λ (n : ℕ). block_with c.code_block-inter-in-loop-number.result c.code_block-inter-in-loop-number.new.q ≡ coded_block c.args.shape.now.inter c.args.shape.now.qp (block_of c.args.plane.now c.args.shape.now.width c.args.shape.now.height n)
+          (block_of c.loop-number.reference c.args.shape.now.width c.args.shape.now.height n)) c.spot_of-spot-in-loop-number.ensures.number c.code_block-inter-in-loop-number.ensures.coded))
+          so_far c.in-Ok.ensures.ok (subst (λ (n : ℕ). AreShown c.loop-number.reference c.show_block-in-loop-number.new.reference c.args.shape.now.width c.args.shape.now.height n (n + 1)
+          (block_with c.code_block-inter-in-loop-number.result c.code_block-inter-in-loop-number.new.q)) c.spot_of-spot-in-loop-number.ensures.number c.show_block-in-loop-number.ensures);
     }
 
 pub returns-in-Err-clause-bytes : goal.returns-in-Err-clause-bytes
 returns-in-Err-clause-bytes g c =
     let inside : c.loop-number.number < block_count c.args.shape.now.width c.args.shape.now.height = omega (arith, c.loop-number.invariant.end, c.loop-number-test.true) in
     let so_far = c.loop-number.invariant.coded in
-    not_coded (coded_blocks c.args.shape.now.inter c.args.shape.now.qp c.args.plane.now c.args.reference.now c.args.shape.now.width c.args.shape.now.height) c.args.reference.now c.loop-number.reference c.args.shape.now.width c.args.shape.now.height c.loop-number.number c.args.out.now c.loop-number.out c.add_block.new.out c.loop-number.pending
+    not_coded (coded_blocks c.args.shape.now.inter c.args.shape.now.qp c.args.plane.now c.args.reference.now c.args.shape.now.width c.args.shape.now.height) c.args.reference.now c.loop-number.reference c.args.shape.now.width c.args.shape.now.height c.loop-number.number
+    c.args.out.now c.loop-number.out c.add_block.new.out c.loop-number.pending
     c.code_block-inter-in-loop-number.result c.code_block-inter-in-loop-number.new.q c.in-Err.full (omega (arith, inside, length-coded_blocks c.args.shape.now.inter c.args.shape.now.qp c.args.plane.now c.args.reference.now c.args.shape.now.width c.args.shape.now.height))
     (block_coded c.args.shape.now.inter c.args.shape.now.qp c.args.plane.now c.args.reference.now c.loop-number.reference c.args.shape.now.width c.args.shape.now.height c.loop-number.number (block_with c.code_block-inter-in-loop-number.result c.code_block-inter-in-loop-number.new.q)
-    (coded_blocks c.args.shape.now.inter c.args.shape.now.qp c.args.plane.now c.args.reference.now c.args.shape.now.width c.args.shape.now.height) c.requires.some.0 c.requires.some.1 inside so_far.decoded (subst (λ (n : ℕ). block_with c.code_block-inter-in-loop-number.result c.code_block-inter-in-loop-number.new.q ≡ coded_block c.args.shape.now.inter c.args.shape.now.qp (block_of c.args.plane.now c.args.shape.now.width c.args.shape.now.height n) (block_of c.loop-number.reference c.args.shape.now.width c.args.shape.now.height n)) c.spot_of-spot-in-loop-number.ensures.number c.code_block-inter-in-loop-number.ensures.coded))
+    (coded_blocks c.args.shape.now.inter c.args.shape.now.qp c.args.plane.now c.args.reference.now c.args.shape.now.width c.args.shape.now.height) c.requires.some.0 c.requires.some.1 inside so_far.decoded
+    (subst (λ (n : ℕ). block_with c.code_block-inter-in-loop-number.result c.code_block-inter-in-loop-number.new.q ≡ coded_block c.args.shape.now.inter c.args.shape.now.qp (block_of c.args.plane.now c.args.shape.now.width c.args.shape.now.height n)
+    (block_of c.loop-number.reference c.args.shape.now.width c.args.shape.now.height n)) c.spot_of-spot-in-loop-number.ensures.number c.code_block-inter-in-loop-number.ensures.coded))
     so_far c.in-Err.ensures.full
 
 pub put_entry-requires-clause-place : goal.put_entry-requires-clause-place
@@ -66,7 +73,8 @@ put_entry-requires-clause-repeats g c = c.loop-number.invariant.coded.repeats
 
 pub returns-clause-bytes : goal.returns-clause-bytes
 returns-clause-bytes g c =
-    all_coded (coded_blocks c.args.shape.now.inter c.args.shape.now.qp c.args.plane.now c.args.reference.now c.args.shape.now.width c.args.shape.now.height) c.args.reference.now c.loop-number.reference c.args.shape.now.width c.args.shape.now.height c.loop-number.number c.args.out.now c.loop-number.out c.put_entry.new.out c.loop-number.pending c.put_entry.result
+    all_coded (coded_blocks c.args.shape.now.inter c.args.shape.now.qp c.args.plane.now c.args.reference.now c.args.shape.now.width c.args.shape.now.height) c.args.reference.now c.loop-number.reference c.args.shape.now.width c.args.shape.now.height c.loop-number.number
+    c.args.out.now c.loop-number.out c.put_entry.new.out c.loop-number.pending c.put_entry.result
     (omega (arith, c.loop-number.invariant.end, c.loop-number-test.false, length-coded_blocks c.args.shape.now.inter c.args.shape.now.qp c.args.plane.now c.args.reference.now c.args.shape.now.width c.args.shape.now.height)) c.loop-number.invariant.coded c.put_entry.ensures
 
 pub returns-clause-samples : goal.returns-clause-samples
@@ -75,4 +83,5 @@ returns-clause-samples g c =
     let last : c.loop-number.number ≡ block_count c.args.shape.now.width c.args.shape.now.height = omega (arith, some, c.loop-number.invariant.end, c.loop-number-test.false, c.loop-number.auto.number-end, c.loop-number.auto.number) in
     on_ok c.put_entry.result (c.loop-number.reference ≡ decoded_plane (coded_blocks c.args.shape.now.inter c.args.shape.now.qp c.args.plane.now c.args.reference.now c.args.shape.now.width c.args.shape.now.height) c.args.reference.now c.args.shape.now.width c.args.shape.now.height)
     (all_decoded (coded_blocks c.args.shape.now.inter c.args.shape.now.qp c.args.plane.now c.args.reference.now c.args.shape.now.width c.args.shape.now.height) c.args.reference.now c.loop-number.reference c.args.shape.now.width c.args.shape.now.height c.requires.some.0 c.loop-number.invariant.size
-    (subst (λ (n : ℕ). AreDecoded (coded_blocks c.args.shape.now.inter c.args.shape.now.qp c.args.plane.now c.args.reference.now c.args.shape.now.width c.args.shape.now.height) c.args.reference.now c.loop-number.reference c.args.shape.now.width c.args.shape.now.height n) last c.loop-number.invariant.coded.decoded))
+    (subst (λ (n : ℕ). AreDecoded (coded_blocks c.args.shape.now.inter c.args.shape.now.qp c.args.plane.now c.args.reference.now c.args.shape.now.width c.args.shape.now.height) c.args.reference.now c.loop-number.reference c.args.shape.now.width c.args.shape.now.height n) last
+    c.loop-number.invariant.coded.decoded))

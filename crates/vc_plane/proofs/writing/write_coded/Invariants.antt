@@ -1,6 +1,6 @@
 use Rattle.std.proofs.Common.{◌≡◌, ◌*◌, length}
 use Rattle.vc_defs.specs.Planes.{coded_blocks, block_count}
-use Rattle.vc_plane.proofs.Coded.{AreCoded}
+use Rattle.vc_plane.proofs.BlocksAreCodedInTurn.{AreCoded}
 use Rattle.vc_plane.proofs.writing.write_coded.Given as goal
 
 abbrev pub invariant-loop-number : goal.invariant-loop-number

@@ -1,7 +1,7 @@
 use Rattle.std.proofs.Common.{◌≡◌, ◌∙◌, ◌+◌, ◌*◌, ◌-◌, ◌≤◌, length, drop, length-take, length-drop, arith}
 use Rattle.vc_defs.specs.Planes.{padded}
-use Rattle.vc_plane.proofs.RawSamples.{padded_size}
-use Rattle.vc_plane.proofs.WrittenPlanes.{words_written, raw_written}
+use Rattle.vc_plane.proofs.RawPlanesBothWays.{padded_size}
+use Rattle.vc_plane.proofs.PlaneWrittenInItsPart.{words_written, raw_written}
 use Rattle.vc_plane.proofs.writing.write_plane.Goals as goal
 
 pub returns-in-Ok : goal.returns-in-Ok

@@ -1,4 +1,4 @@
-use Rattle.vc_resync.proofs.Decoding.{begins_in_step}
+use Rattle.vc_resync.proofs.RunsAreFeeds.{begins_in_step}
 use Rattle.vc_resync.proofs.laws.begins_in_step.Goals as goal
 
 pub returns : goal.returns

@@ -1,4 +1,4 @@
-use Rattle.vc_resync.proofs.Decoding.{decodes_by_feeds}
+use Rattle.vc_resync.proofs.RunsAreFeeds.{decodes_by_feeds}
 use Rattle.vc_resync.proofs.laws.decodes_by_feeds.Goals as goal
 
 pub returns : goal.returns

@@ -1,4 +1,4 @@
-use Rattle.vc_resync.proofs.Decoding.{runs_end}
+use Rattle.vc_resync.proofs.RunsAreFeeds.{runs_end}
 use Rattle.vc_resync.proofs.laws.runs_end.Goals as goal
 
 pub returns : goal.returns

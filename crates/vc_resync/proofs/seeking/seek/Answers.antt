@@ -2,7 +2,7 @@ use Rattle.std.proofs.Common.{◌≡◌, ◌<◌, ◌+◌, ◌-◌, ◌++◌, �
 use Rattle.std.proofs.lemmas.List.{take_rest}
 use Rattle.vc_defs.specs.Headers.{magic}
 use Rattle.vc_resync.specs.Seeking.{Matches}
-use Rattle.vc_resync.proofs.Matching.{pass_to, pass_one, no_first}
+use Rattle.vc_resync.proofs.MagicComesOn.{pass_to, pass_one, no_first}
 use Rattle.vc_resync.proofs.seeking.seek.Goals as goal
 use Rattle.vc_resync.proofs.seeking.seek.Goals.{then-now-eq0+in-Some, else-now-eq0}
 

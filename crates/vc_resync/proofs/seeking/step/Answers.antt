@@ -1,5 +1,5 @@
 use Rattle.std.proofs.Common.{arith}
-use Rattle.vc_resync.proofs.Matching.{on_first, on_again, on_last, on_other}
+use Rattle.vc_resync.proofs.MagicComesOn.{on_first, on_again, on_last, on_other}
 use Rattle.vc_resync.proofs.seeking.step.Goals as goal
 use Rattle.vc_resync.proofs.seeking.step.Goals.{else-byte-2-via-then-byte-2+else-matched-ge4, else-byte-2-via-else-byte-2}
 

@@ -1,7 +1,7 @@
 use Rattle.std.proofs.Common.{◌∙◌, ◌++◌, ap, replicate, refl, arith}
 use Rattle.std.specs.Prelude.{min}
 use Rattle.circular_buffer.specs.Buffer.{keep_last}
-use Rattle.vc_resync.proofs.Stamping.{keep_twice, keep_enough}
+use Rattle.vc_resync.proofs.LastStampsAreKept.{keep_twice, keep_enough}
 use Rattle.vc_resync.proofs.stamps.keep.Goals as goal
 
 pub returns-clause-items : goal.returns-clause-items

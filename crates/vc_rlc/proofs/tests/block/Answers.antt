@@ -1,6 +1,6 @@
 use Rattle.std.specs.Int.{w32}
 use mir.Val.{to_z, of_z}
-use Rattle.vc_rlc.proofs.Ranges.{no_values, values_set, value_held}
+use Rattle.vc_rlc.proofs.ValuesHaveTwelveBits.{no_values, values_set, value_held}
 use Rattle.vc_rlc.proofs.tests.block.Goals as goal
 
 pub loop-k-init : goal.loop-k-init

@@ -1,6 +1,6 @@
 use Rattle.std.proofs.Common.{sym, subst}
 use Rattle.vc_coverage.specs.Covering.{CoverageState, HasRead}
-use Rattle.vc_coverage.proofs.Reaching.{key_header_is}
+use Rattle.vc_coverage.proofs.FindsAreReached.{key_header_is}
 use Rattle.vc_coverage.proofs.coverage.Coverage.has_key_header.Goals as goal
 
 pub returns : goal.returns

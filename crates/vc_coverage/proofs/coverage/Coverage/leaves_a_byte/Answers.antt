@@ -1,6 +1,6 @@
 use Rattle.std.proofs.Common.{sym, subst}
 use Rattle.vc_coverage.specs.Covering.{CoverageState, HasRead}
-use Rattle.vc_coverage.proofs.Reaching.{leaves_is}
+use Rattle.vc_coverage.proofs.FindsAreReached.{leaves_is}
 use Rattle.vc_coverage.proofs.coverage.Coverage.leaves_a_byte.Goals as goal
 
 pub returns : goal.returns

@@ -1,5 +1,5 @@
 use Rattle.std.proofs.Common.{refl, []}
-use Rattle.vc_coverage.proofs.Turns.{reads_nothing}
+use Rattle.vc_coverage.proofs.FeedsReadOn.{reads_nothing}
 use Rattle.vc_coverage.proofs.coverage.Coverage.make.Goals as goal
 
 pub invariant_of-result : goal.invariant_of-result

@@ -6,7 +6,7 @@ use Rattle.vc_resync.specs.Collecting.{kept_in}
 use Rattle.vc_resync.specs.Continuing.{IsKept, SameAnswer, IsAnswered}
 use Rattle.vc_resync.specs.Telling.{told_in}
 use Rattle.vc_resync.specs.Keeping.{kept_of_fields, assembly_of}
-use Rattle.vc_resync.proofs.Keeping.{stepped, goes_on, answered, remembered}
+use Rattle.vc_resync.proofs.FieldsStaySound.{stepped, goes_on, answered, remembered}
 use Rattle.vc_resync.proofs.assembly.Assembly.advance.Goals as goal
 
 pub invariant_of-self : goal.invariant_of-self

@@ -1,5 +1,5 @@
 use Rattle.vc_resync.specs.Collecting.{kept_in}
-use Rattle.vc_resync.proofs.Keeping.{kept_nothing}
+use Rattle.vc_resync.proofs.FieldsStaySound.{kept_nothing}
 use Rattle.vc_resync.proofs.assembly.Assembly.reset.Goals as goal
 
 pub invariant_of-self : goal.invariant_of-self

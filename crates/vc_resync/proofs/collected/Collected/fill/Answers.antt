@@ -2,7 +2,7 @@ use Rattle.std.proofs.Common.{◌≡◌, ◌∙◌, ◌++◌, ◌<◌, ◌≤◌
 use Rattle.std.proofs.lemmas.List.{length-take-le, take-take}
 use Rattle.vc_defs.specs.Headers.{magic}
 use Rattle.vc_resync.specs.Seeking.{Matches, Sought}
-use Rattle.vc_resync.proofs.Filling.{cut_taken, whole_taken, more_taken, more_open}
+use Rattle.vc_resync.proofs.FrameBytesFill.{cut_taken, whole_taken, more_taken, more_open}
 use Rattle.vc_resync.proofs.collected.Collected.fill.Goals as goal
 
 -- what a search in the first so many bytes says of the bytes themselves

@@ -1,11 +1,11 @@
 use Rattle.std.proofs.Common.{◌≡◌, ◌∙◌, sym, ap, length, take, arith}
 use Rattle.std.proofs.lemmas.List.{length-take-le}
-use Rattle.vc_resync.proofs.Putting.{length_put}
-use Rattle.vc_resync.proofs.Collecting.{go_on_begun, go_on_front, go_on_taken}
+use Rattle.vc_resync.proofs.BytesArePut.{length_put}
+use Rattle.vc_resync.proofs.StepsKeepTheRightBytes.{go_on_begun, go_on_front, go_on_taken}
 use Rattle.vc_resync.proofs.collected.Collected.go_on.Goals as goal
 
-pub returns-then-there-count-lt44-clause-sound : goal.returns-then-there-count-lt44-clause-sound
-returns-then-there-count-lt44-clause-sound c =
+pub returns-then-there-count-lt-HEADER_SIZE-clause-sound : goal.returns-then-there-count-lt-HEADER_SIZE-clause-sound
+returns-then-there-count-lt-HEADER_SIZE-clause-sound c =
     let head = c.args.self.now.head in
     let bytes = take c.min-count.result c.args.bytes.now in
     let long : length bytes ≡ c.min-count.result = length-take-le c.min-count.result c.args.bytes.now (omega arith) in
@@ -18,8 +18,8 @@ returns-then-there-count-lt44-clause-sound c =
       stands = go_on_begun head bytes c.put.new.out c.args.there c.min-count.result room.head c.requires.begun (omega (arith, long)) c.put.ensures (sym long);
     }
 
-pub returns-then-there-count-lt44-clause-taken : goal.returns-then-there-count-lt44-clause-taken
-returns-then-there-count-lt44-clause-taken c =
+pub returns-then-there-count-lt-HEADER_SIZE-clause-taken : goal.returns-then-there-count-lt-HEADER_SIZE-clause-taken
+returns-then-there-count-lt-HEADER_SIZE-clause-taken c =
     let head = c.args.self.now.head in
     let bytes = take c.min-count.result c.args.bytes.now in
     let long : length bytes ≡ c.min-count.result = length-take-le c.min-count.result c.args.bytes.now (omega arith) in

@@ -1,8 +1,8 @@
 use Rattle.std.proofs.Common.{◌≡◌, ◌∙◌, ap, take, length, arith, length-take}
 use Rattle.vc_defs.specs.Headers.{magic}
-use Rattle.vc_resync.proofs.Matching.{length_of_matched}
-use Rattle.vc_resync.proofs.Putting.{length_put}
-use Rattle.vc_resync.proofs.Collecting.{look_on_none, look_on_some, look_on_grows}
+use Rattle.vc_resync.proofs.MagicComesOn.{length_of_matched}
+use Rattle.vc_resync.proofs.BytesArePut.{length_put}
+use Rattle.vc_resync.proofs.StepsKeepTheRightBytes.{look_on_none, look_on_some, look_on_grows}
 use Rattle.vc_resync.proofs.collected.Collected.look_on.Goals as goal
 
 pub returns-else-matched-eq8-clause-taken : goal.returns-else-matched-eq8-clause-taken

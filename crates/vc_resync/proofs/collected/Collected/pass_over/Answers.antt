@@ -1,7 +1,7 @@
 use Rattle.std.proofs.Common.{◌∙◌, ◌-◌, ap, take, drop, length, arith, length-drop, length-take}
 use Rattle.std.proofs.lemmas.List.{take_all}
-use Rattle.vc_resync.proofs.Putting.{length_put}
-use Rattle.vc_resync.proofs.Collecting.{pass_over_begun}
+use Rattle.vc_resync.proofs.BytesArePut.{length_put}
+use Rattle.vc_resync.proofs.StepsKeepTheRightBytes.{pass_over_begun}
 use Rattle.vc_resync.proofs.collected.Collected.pass_over.Goals as goal
 
 pub returns-clause-sound : goal.returns-clause-sound

@@ -2,7 +2,7 @@ use Rattle.std.proofs.Common.{ℕ, List, subst, drop, arith, length-drop}
 use Rattle.std.proofs.lemmas.List.{take_all}
 use Rattle.vc_resync.specs.Seeking.{Sought}
 use Rattle.vc_resync.specs.Collecting.{kept_in}
-use Rattle.vc_resync.proofs.Collecting.{head_open, head_taken, illegal_taken}
+use Rattle.vc_resync.proofs.StepsKeepTheRightBytes.{head_open, head_taken, illegal_taken}
 use Rattle.vc_resync.proofs.collected.Collected.read_head.Goals as goal
 
 pub pass_over-requires-clause-sought : goal.pass_over-requires-clause-sought

@@ -1,0 +1,3 @@
+pub mod RestoredStaysInRange
+pub mod FlatBlocksAreUniform
+mod ShownIsRestored

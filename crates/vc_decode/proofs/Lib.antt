@@ -1,4 +1,0 @@
-mod Feeding
-mod Coming
-mod Showing
-mod Looping

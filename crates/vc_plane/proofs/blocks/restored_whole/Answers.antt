@@ -1,7 +1,0 @@
-use Rattle.std.proofs.Common.{not}
-use Rattle.vc_plane.proofs.Ranges.{restored_in_range, length-dequantised}
-use Rattle.vc_plane.proofs.blocks.restored_whole.Goals as goal
-
-pub returns-clause-range : goal.returns-clause-range
-returns-clause-range g c =
-    restored_in_range c.inverse.result c.dequantise.result c.inverse.ensures (length-dequantised c.dequantise.result c.args.q.now (not c.args.inter) c.dequantise.ensures.dequantised) c.dequantise.ensures.range

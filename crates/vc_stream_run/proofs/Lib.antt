@@ -1,0 +1,4 @@
+mod FedFramesHaveTheGeometry
+mod RunsComeToTheNextResult
+mod FramesShowPictures
+mod EachTurnGoesOnOrEnds
