@@ -1,14 +1,15 @@
 //! One caller beside workers.
 
-ghost use Rattle.std.specs.Prelude.{◌≡◌, ◌≤◌, ◌∷◌, [], ℕ, All, IfOk, IfErr, map, take, drop, vec_len, vec_capacity};
-ghost use Rattle.vc_shared.specs.Making.{AreNewWorkers};
+ghost use Rattle.std.specs.Prelude.{◌≡◌, ◌≤◌, ℕ, IfOk, IfErr, take, drop, vec_len};
+ghost use Rattle.vc_crew.specs.Counts.{counts_of};
 ghost use Rattle.vc_crew.specs.Workers.{HaveWorked};
-ghost use Rattle.vc_crew.specs.Flowing.{ArePaired, MayFlow, HasFlowed};
+ghost use Rattle.vc_crew.specs.Flowing.{ArePaired, HasFlowed};
+ghost use Rattle.vc_crew.specs.Ready.{IsCallerReady, IsCrewReady};
 ghost use Rattle.vc_crew.specs.Beside.{RanBeside};
 ghost use Rattle.vc_crew.specs.Sites.{device_of};
 
 use crate::caller::Caller;
-use crate::calling::{Context, Done};
+use crate::calling::{Done, SeatedFlow};
 use crate::crew::{Crew, Run, run_crew};
 use crate::flow::Flow;
 use crate::site::{Opened, Site, close_site, open_site};
@@ -34,29 +35,24 @@ fn run_scope<R: Threads + Wait + Sync, E: Engine + Send, F: Flow>(
     crew: Crew<E>,
     caller: Caller<E, F>,
 ) -> Run<E, F>
-    requires new { AreNewWorkers (device_of site.now) (vec_len crew.jobs) crew.jobs.items }
-    requires engines { vec_len crew.jobs ≤ vec_len crew.engines }
-    requires refused { vec_len crew.jobs ≤ vec_len site.now.refused_workers }
-    requires may { All (λ c. MayFlow F.may (device_of site.now) c.handle c.flow) caller.contexts.items }
-    requires none { caller.done.items ≡ [] }
-    requires room { vec_len caller.contexts ≤ vec_capacity caller.done }
-    requires help { caller.help ≡ None }
+    requires crew { IsCrewReady site.now crew }
+    requires caller { IsCallerReady F.may site.now caller }
     ensures worked { HaveWorked E.run_count E.fault_count (device_of site.now) 0 result.crew.jobs.items crew.engines.items result.crew.engines.items }
     ensures jobs { vec_len result.crew.jobs ≡ vec_len crew.jobs }
     ensures engines { vec_len result.crew.engines ≡ vec_len crew.engines }
-    ensures flowed { ArePaired (λ c d. HasFlowed F.does c.flow d.flow d.end c.handle d.handle) caller.contexts.items result.called.done.items }
-    ensures all { vec_len result.called.done ≡ vec_len caller.contexts }
+    ensures flowed { ArePaired (λ c d. HasFlowed F.does c.flow d.flow d.end c.handle d.handle) caller.seated_flows.items result.called.done.items }
+    ensures all { vec_len result.called.done ≡ vec_len caller.seated_flows }
 {
     thread::scope(
         thread::scope_env(),
         rt,
         move |scope| -> Run<E, F>
-            requires { AreNewWorkers (device_of site.now) (vec_len crew.jobs) crew.jobs.items × (vec_len crew.jobs ≤ vec_len crew.engines) × (vec_len crew.jobs ≤ vec_len site.now.refused_workers) × All (λ c. MayFlow F.may (device_of site.now) c.handle c.flow) caller.contexts.items × (caller.done.items ≡ []) × (vec_len caller.contexts ≤ vec_capacity caller.done) × (caller.help ≡ None) }
+            requires { IsCrewReady site.now crew × IsCallerReady F.may site.now caller }
             ensures worked { HaveWorked E.run_count E.fault_count (device_of site.entry.now) 0 result.crew.jobs.items crew.engines.items result.crew.engines.items }
             ensures jobs { vec_len result.crew.jobs ≡ vec_len crew.jobs }
             ensures engines { vec_len result.crew.engines ≡ vec_len crew.engines }
-            ensures flowed { ArePaired (λ c d. HasFlowed F.does c.flow d.flow d.end c.handle d.handle) caller.contexts.items result.called.done.items }
-            ensures all { vec_len result.called.done ≡ vec_len caller.contexts }
+            ensures flowed { ArePaired (λ c d. HasFlowed F.does c.flow d.flow d.end c.handle d.handle) caller.seated_flows.items result.called.done.items }
+            ensures all { vec_len result.called.done ≡ vec_len caller.seated_flows }
         { run_crew(scope, rt, alloc, site, crew, caller) },
     )
 }
@@ -66,7 +62,7 @@ fn run_scope<R: Threads + Wait + Sync, E: Engine + Send, F: Flow>(
 /// It returns when all threads have ended. It may wait, as its flow may.
 ///
 /// All engines come back, each at its place. Those behind the first ones, of which each worker has one, are not used.
-/// Where memory is wanting, nothing was done.
+/// Out of memory, nothing was done.
 pub fn run_beside<R: Threads + Wait + Sync, E: Engine + Send, F: Flow>(
     rt: &R,
     alloc: Global,
@@ -77,7 +73,9 @@ pub fn run_beside<R: Threads + Wait + Sync, E: Engine + Send, F: Flow>(
     requires workers { (1 ≤ workers) × (workers ≤ 16) }
     requires engines { workers ≤ vec_len engines.old }
     requires may { F.may flow }
-    ensures ran { IfOk result.end (λ end. RanBeside F.does flow result.flow end (map (λ e. E.run_count e) (take workers engines.old.items)) (map (λ e. E.run_count e) (take workers engines.new.items)) (map (λ e. E.fault_count e) (take workers engines.old.items)) (map (λ e. E.fault_count e) (take workers engines.new.items))) }
+    ensures ran { let before = take workers (counts_of E.run_count E.fault_count engines.old.items) in
+        let after = take workers (counts_of E.run_count E.fault_count engines.new.items) in
+        IfOk result.end (λ end. RanBeside F.does flow result.flow end before after) }
     ensures refused { IfErr result.end (λ _. (result.flow ≡ flow) × (engines.new ≡ engines.old)) }
     ensures crew { vec_len engines.new ≡ vec_len engines.old }
     ensures others { drop workers engines.new.items ≡ drop workers engines.old.items }
@@ -98,7 +96,7 @@ pub fn run_beside<R: Threads + Wait + Sync, E: Engine + Send, F: Flow>(
     let Some(handle) = handles.pop() else {
         unreachable!()
     };
-    let caller = caller.with_context(Context { handle, flow });
+    let caller = caller.with_flow(SeatedFlow { handle, flow });
     let crew = Crew {
         jobs,
         engines: mem::replace(engines, Vec::new(alloc)),

@@ -7,7 +7,7 @@ ghost use Rattle.vc_crew.specs.Workers.{HasWorked};
 ghost use Rattle.vc_crew.specs.Flowing.{ArePaired, MayFlow, HasFlowed};
 ghost use Rattle.vc_crew.specs.Sites.{device_of};
 
-use crate::calling::{Context, Done, Helped, run_helped};
+use crate::calling::{Done, Helped, SeatedFlow, run_helped};
 use crate::flow::Flow;
 use crate::site::Site;
 use crate::worker::{Worker, serve_on};
@@ -20,7 +20,7 @@ use vc_core::Engine;
 /// started, if there is one.
 #[derive(Drop)]
 pub(crate) struct Caller<E: Engine, F: Flow> {
-    pub(crate) contexts: Vec<Context<F>>,
+    pub(crate) seated_flows: Vec<SeatedFlow<F>>,
     pub(crate) done: Vec<Done<F>>,
     pub(crate) help: Option<Worker<E>>,
 }
@@ -35,41 +35,41 @@ pub(crate) struct Called<E: Engine, F: Flow> {
 impl<E: Engine, F: Flow> Caller<E, F> {
     /// A caller with no flows yet, and room for so many.
     pub(crate) fn make(alloc: Global, number: usize) -> Result<Caller<E, F>, NoMemory>
-        ensures contexts { IfOk result (λ caller. (caller.contexts.items ≡ []) × (vec_capacity caller.contexts ≡ number)) }
+        ensures seated_flows { IfOk result (λ caller. (caller.seated_flows.items ≡ []) × (vec_capacity caller.seated_flows ≡ number)) }
         ensures done { IfOk result (λ caller. (caller.done.items ≡ []) × (vec_capacity caller.done ≡ number)) }
         ensures help { IfOk result (λ caller. caller.help ≡ None) }
     {
-        let Ok(contexts) = Vec::with_capacity(alloc, number) else {
+        let Ok(seated_flows) = Vec::with_capacity(alloc, number) else {
             return Err(NoMemory);
         };
         let Ok(done) = Vec::with_capacity(alloc, number) else {
             return Err(NoMemory);
         };
         Ok(Caller {
-            contexts,
+            seated_flows,
             done,
             help: None,
         })
     }
 
     /// Puts a flow behind the others.
-    pub(crate) fn with_context(self, context: Context<F>) -> Caller<E, F>
-        requires { vec_len self.contexts < vec_capacity self.contexts }
-        ensures contexts { result.contexts.items ≡ self.contexts.items ++ context ∷ [] }
-        ensures more { vec_len result.contexts ≡ vec_len self.contexts + 1 }
-        ensures room { vec_capacity result.contexts ≡ vec_capacity self.contexts }
+    pub(crate) fn with_flow(self, seated: SeatedFlow<F>) -> Caller<E, F>
+        requires { vec_len self.seated_flows < vec_capacity self.seated_flows }
+        ensures seated_flows { result.seated_flows.items ≡ self.seated_flows.items ++ seated ∷ [] }
+        ensures more { vec_len result.seated_flows ≡ vec_len self.seated_flows + 1 }
+        ensures room { vec_capacity result.seated_flows ≡ vec_capacity self.seated_flows }
         ensures done { result.done ≡ self.done }
         ensures help { result.help ≡ self.help }
     {
         let Caller {
-            contexts,
+            seated_flows,
             done,
             help,
         } = self;
-        let mut contexts = contexts;
-        contexts.push_reserved(context);
+        let mut seated_flows = seated_flows;
+        seated_flows.push_reserved(seated);
         Caller {
-            contexts,
+            seated_flows,
             done,
             help,
         }
@@ -78,17 +78,17 @@ impl<E: Engine, F: Flow> Caller<E, F> {
     /// The caller with an idle worker in place of its help.
     pub(crate) fn with_help(self, worker: Worker<E>) -> Caller<E, F>
         ensures same { result ≡ record self { help = Some worker } }
-        ensures contexts { result.contexts ≡ self.contexts }
+        ensures seated_flows { result.seated_flows ≡ self.seated_flows }
         ensures done { result.done ≡ self.done }
         ensures help { result.help ≡ Some worker }
     {
         let Caller {
-            contexts,
+            seated_flows,
             done,
             help: _,
         } = self;
         Caller {
-            contexts,
+            seated_flows,
             done,
             help: Some(worker),
         }
@@ -133,29 +133,29 @@ pub(crate) fn run_caller<R: Wait + Sync, E: Engine, F: Flow>(
     site: &Site,
     caller: Caller<E, F>,
 ) -> Called<E, F>
-    requires may { All (λ c. MayFlow F.may (device_of site.now) c.handle c.flow) caller.contexts.items }
+    requires may { All (λ c. MayFlow F.may (device_of site.now) c.handle c.flow) caller.seated_flows.items }
     requires none { caller.done.items ≡ [] }
-    requires room { vec_len caller.contexts ≤ vec_capacity caller.done }
+    requires room { vec_len caller.seated_flows ≤ vec_capacity caller.done }
     requires help { IfThere (λ w. (w.seat.device.lock ≡ site.now.shared) × (station_job w.seat ≡ None)) caller.help }
-    ensures flowed { ArePaired (λ c d. HasFlowed F.does c.flow d.flow d.end c.handle d.handle) caller.contexts.items result.done.items }
-    ensures all { vec_len result.done ≡ vec_len caller.contexts }
+    ensures flowed { ArePaired (λ c d. HasFlowed F.does c.flow d.flow d.end c.handle d.handle) caller.seated_flows.items result.done.items }
+    ensures all { vec_len result.done ≡ vec_len caller.seated_flows }
     ensures room { vec_capacity result.done ≡ vec_capacity caller.done }
     ensures helped { Both (λ x y. HasWorked x.seat y.seat (E.run_count x.engine) (E.run_count y.engine) (E.fault_count x.engine) (E.fault_count y.engine)) caller.help result.help }
 {
     let Caller {
-        contexts,
+        seated_flows,
         done,
         help,
     } = caller;
-    let mut contexts = contexts;
-    let Some(context) = contexts.pop() else {
+    let mut seated_flows = seated_flows;
+    let Some(seated) = seated_flows.pop() else {
         let help = serve_by(rt, site, help);
         return Called { done, help };
     };
-    let helped = run_helped(rt, alloc, site, context, help);
+    let helped = run_helped(rt, alloc, site, seated, help);
     let Helped { done: last, help } = helped;
     let caller = Caller {
-        contexts,
+        seated_flows,
         done,
         help,
     };

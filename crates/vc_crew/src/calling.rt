@@ -22,7 +22,7 @@ use vc_worker::{Help, Helping};
 
 /// A flow that has not been run, with the seat of its slot.
 #[derive(Drop)]
-pub(crate) struct Context<F: Flow> {
+pub(crate) struct SeatedFlow<F: Flow> {
     pub(crate) handle: HandleSeat,
     pub(crate) flow: F,
 }
@@ -100,12 +100,12 @@ pub(crate) fn run_alone<R: Wait + Sync, F: Flow>(
     rt: &R,
     alloc: Global,
     site: &Site,
-    context: Context<F>,
+    seated: SeatedFlow<F>,
 ) -> Done<F>
-    requires { MayFlow F.may (device_of site.now) context.handle context.flow }
-    ensures { HasFlowed F.does context.flow result.flow result.end context.handle result.handle }
+    requires { MayFlow F.may (device_of site.now) seated.handle seated.flow }
+    ensures { HasFlowed F.does seated.flow result.flow result.end seated.handle result.handle }
 {
-    let Context { handle, flow } = context;
+    let SeatedFlow { handle, flow } = seated;
     let mut flow = flow;
     let mut port = Handle::new(rt, &site.shared, handle);
     let end = flow.run(rt, alloc, &mut port);
@@ -118,15 +118,15 @@ pub(crate) fn run_helped<R: Wait + Sync, E: Engine, F: Flow>(
     rt: &R,
     alloc: Global,
     site: &Site,
-    context: Context<F>,
+    seated: SeatedFlow<F>,
     help: Option<Worker<E>>,
 ) -> Helped<E, F>
-    requires may { MayFlow F.may (device_of site.now) context.handle context.flow }
+    requires may { MayFlow F.may (device_of site.now) seated.handle seated.flow }
     requires help { IfThere (λ w. (w.seat.device.lock ≡ site.now.shared) × (station_job w.seat ≡ None)) help }
-    ensures flowed { HasFlowed F.does context.flow result.done.flow result.done.end context.handle result.done.handle }
+    ensures flowed { HasFlowed F.does seated.flow result.done.flow result.done.end seated.handle result.done.handle }
     ensures helped { Both (λ x y. HasWorked x.seat y.seat (E.run_count x.engine) (E.run_count y.engine) (E.fault_count x.engine) (E.fault_count y.engine)) help result.help }
 {
-    let Context { handle, flow } = context;
+    let SeatedFlow { handle, flow } = seated;
     let mut flow = flow;
     let mut helping = port_of(rt, &site.shared, handle, help);
     let end = flow.run(rt, alloc, &mut helping);

@@ -118,9 +118,9 @@ pub(crate) fn run_crew<'s, C, R: Threads + Wait + Sync, E: Engine + Send + 's, F
     requires new { AreNewWorkers (device_of site.now) (vec_len crew.jobs) crew.jobs.items }
     requires engines { vec_len crew.jobs ≤ vec_len crew.engines }
     requires refused { vec_len crew.jobs ≤ vec_len site.now.refused_workers }
-    requires may { All (λ c. MayFlow F.may (device_of site.now) c.handle c.flow) caller.contexts.items }
+    requires may { All (λ c. MayFlow F.may (device_of site.now) c.handle c.flow) caller.seated_flows.items }
     requires none { caller.done.items ≡ [] }
-    requires room { vec_len caller.contexts ≤ vec_capacity caller.done }
+    requires room { vec_len caller.seated_flows ≤ vec_capacity caller.done }
     requires help { IfThere (λ w. (w.seat.device.lock ≡ site.now.shared) × (station_job w.seat ≡ None)) caller.help }
     ensures worked { HaveWorked E.run_count E.fault_count (device_of site.now) 0 result.crew.jobs.items crew.engines.items result.crew.engines.items }
     ensures jobs { vec_len result.crew.jobs ≡ vec_len crew.jobs }
@@ -128,8 +128,8 @@ pub(crate) fn run_crew<'s, C, R: Threads + Wait + Sync, E: Engine + Send + 's, F
     ensures jobs_room { vec_capacity result.crew.jobs ≡ vec_capacity crew.jobs }
     ensures engines_room { vec_capacity result.crew.engines ≡ vec_capacity crew.engines }
     ensures helped { Both (λ x y. HasWorked x.seat y.seat (E.run_count x.engine) (E.run_count y.engine) (E.fault_count x.engine) (E.fault_count y.engine)) caller.help result.called.help }
-    ensures flowed { ArePaired (λ c d. HasFlowed F.does c.flow d.flow d.end c.handle d.handle) caller.contexts.items result.called.done.items }
-    ensures all { vec_len result.called.done ≡ vec_len caller.contexts }
+    ensures flowed { ArePaired (λ c d. HasFlowed F.does c.flow d.flow d.end c.handle d.handle) caller.seated_flows.items result.called.done.items }
+    ensures all { vec_len result.called.done ≡ vec_len caller.seated_flows }
     ensures room { vec_capacity result.called.done ≡ vec_capacity caller.done }
 {
     let Crew { jobs, engines } = crew;

@@ -9,7 +9,7 @@ ghost use Rattle.vc_crew.specs.Flowing.{ArePaired, MayFlow, HasFlowed, HaveFlowe
 ghost use Rattle.vc_crew.specs.Sites.{device_of};
 
 use crate::caller::{Called, Caller};
-use crate::calling::{Context, Done, run_alone};
+use crate::calling::{Done, SeatedFlow, run_alone};
 use crate::crew::{Crew, Run, run_crew};
 use crate::flow::Flow;
 use crate::site::Site;
@@ -43,7 +43,7 @@ pub(crate) struct AtBegin<F: Flow> {
     pub(crate) flow: Snapshot<F>,
 }
 
-impl<F: Flow> Promise<Result<Done<F>, Context<F>>> for AtBegin<F> {
+impl<F: Flow> Promise<Result<Done<F>, SeatedFlow<F>>> for AtBegin<F> {
     ghost use Rattle.std.specs.Prelude.{◌≡◌, MatchResult};
     ghost use Rattle.vc_crew.specs.Flowing.{HasFlowed};
 
@@ -56,15 +56,15 @@ fn run_started<R: Wait + Sync, F: Flow>(
     alloc: Global,
     site: &Site,
     is_refused: &AtomicBool,
-    context: Context<F>,
-) -> Result<Done<F>, Context<F>>
-    requires { MayFlow F.may (device_of site.now) context.handle context.flow }
-    ensures { MatchResult result (λ d. HasFlowed F.does context.flow d.flow d.end context.handle d.handle) (λ c. (c.handle ≡ context.handle) × (c.flow ≡ context.flow)) }
+    seated: SeatedFlow<F>,
+) -> Result<Done<F>, SeatedFlow<F>>
+    requires { MayFlow F.may (device_of site.now) seated.handle seated.flow }
+    ensures { MatchResult result (λ d. HasFlowed F.does seated.flow d.flow d.end seated.handle d.handle) (λ c. (c.handle ≡ seated.handle) × (c.flow ≡ seated.flow)) }
 {
     if is_refused.load(Ordering::SeqCst) {
-        return Err(context);
+        return Err(seated);
     }
-    Ok(run_alone(rt, alloc, site, context))
+    Ok(run_alone(rt, alloc, site, seated))
 }
 
 /// Starts the thread of a flow. Where no thread can be started, the flow comes back.
@@ -74,21 +74,24 @@ fn begin<'s, C, R: Threads + Wait + Sync, F: Flow + Send + 's>(
     alloc: Global,
     site: &'s Site,
     is_refused: &'s AtomicBool,
-    context: Context<F>,
-) -> Result<PromisedHandle<Result<Done<F>, Context<F>>, AtBegin<F>>, Result<Done<F>, Context<F>>>
-    requires { MayFlow F.may (device_of site.now) context.handle context.flow }
-    ensures handle { IfOk result (λ started. started.promise.handle.value ≡ context.handle) }
-    ensures flow { IfOk result (λ started. started.promise.flow.value ≡ context.flow) }
-    ensures refused { IfErr result (λ r. MatchResult r (λ d. HasFlowed F.does context.flow d.flow d.end context.handle d.handle) (λ c. (c.handle ≡ context.handle) × (c.flow ≡ context.flow))) }
+    seated: SeatedFlow<F>,
+) -> Result<
+    PromisedHandle<Result<Done<F>, SeatedFlow<F>>, AtBegin<F>>,
+    Result<Done<F>, SeatedFlow<F>>,
+>
+    requires { MayFlow F.may (device_of site.now) seated.handle seated.flow }
+    ensures handle { IfOk result (λ started. started.promise.handle.value ≡ seated.handle) }
+    ensures flow { IfOk result (λ started. started.promise.flow.value ≡ seated.flow) }
+    ensures refused { IfErr result (λ r. MatchResult r (λ d. HasFlowed F.does seated.flow d.flow d.end seated.handle d.handle) (λ c. (c.handle ≡ seated.handle) × (c.flow ≡ seated.flow))) }
 {
     let at_begin = AtBegin {
-        handle: Snapshot::of(&context.handle),
-        flow: Snapshot::of(&context.flow),
+        handle: Snapshot::of(&seated.handle),
+        flow: Snapshot::of(&seated.flow),
     };
-    let running = move || -> Result<Done<F>, Context<F>>
-        requires { MayFlow F.may (device_of site.now) context.handle context.flow }
-        ensures { MatchResult result (λ d. HasFlowed F.does context.flow d.flow d.end context.handle d.handle) (λ c. (c.handle ≡ context.handle) × (c.flow ≡ context.flow)) }
-    { run_started(rt, alloc, site, is_refused, context) };
+    let running = move || -> Result<Done<F>, SeatedFlow<F>>
+        requires { MayFlow F.may (device_of site.now) seated.handle seated.flow }
+        ensures { MatchResult result (λ d. HasFlowed F.does seated.flow d.flow d.end seated.handle d.handle) (λ c. (c.handle ≡ seated.handle) × (c.flow ≡ seated.flow)) }
+    { run_started(rt, alloc, site, is_refused, seated) };
     match scope.spawn_with(at_begin, running) {
         Ok(started) => Ok(started),
         Err(refused) => {
@@ -103,14 +106,14 @@ fn behind<R: Wait + Sync, F: Flow>(
     rt: &R,
     alloc: Global,
     site: &Site,
-    ended: Result<Done<F>, Context<F>>,
+    ended: Result<Done<F>, SeatedFlow<F>>,
 ) -> Done<F>
     requires { IfErr ended (λ c. MayFlow F.may (device_of site.now) c.handle c.flow) }
     ensures { MatchResult ended (λ d. result ≡ d) (λ c. HasFlowed F.does c.flow result.flow result.end c.handle result.handle) }
 {
     match ended {
         Ok(done) => done,
-        Err(context) => run_alone(rt, alloc, site, context),
+        Err(seated) => run_alone(rt, alloc, site, seated),
     }
 }
 
@@ -123,7 +126,9 @@ impl<E: Engine, F: Flow> Ran<E, F> {
         ensures handles { result.team.handles.items ≡ self.team.handles.items ++ done.handle ∷ [] }
         ensures flows { result.team.flows.items ≡ self.team.flows.items ++ done.flow ∷ [] }
         ensures ends { result.team.ends.items ≡ self.team.ends.items ++ done.end ∷ [] }
-        ensures rooms { (vec_capacity result.team.handles ≡ vec_capacity self.team.handles) × (vec_capacity result.team.flows ≡ vec_capacity self.team.flows) × (vec_capacity result.team.ends ≡ vec_capacity self.team.ends) }
+        ensures rooms { (vec_capacity result.team.handles ≡ vec_capacity self.team.handles) ×
+            (vec_capacity result.team.flows ≡ vec_capacity self.team.flows) ×
+            (vec_capacity result.team.ends ≡ vec_capacity self.team.ends) }
         ensures run { result.run ≡ self.run }
         ensures own { result.run.called.done.items ≡ self.run.called.done.items }
     {
@@ -201,9 +206,9 @@ pub(crate) fn run_team<'s, C, R: Threads + Wait + Sync, E: Engine + Send + 's, F
     requires jobs { AreNewWorkers (device_of site.now) (vec_len crew.jobs) crew.jobs.items }
     requires engines { vec_len crew.jobs ≤ vec_len crew.engines }
     requires refused_jobs { vec_len crew.jobs ≤ vec_len site.now.refused_workers }
-    requires own { All (λ c. MayFlow F.may (device_of site.now) c.handle c.flow) caller.contexts.items }
-    requires own_room { vec_len team.flows + vec_len caller.contexts ≤ vec_capacity caller.contexts }
-    requires done { (caller.done.items ≡ []) × (vec_len team.flows + vec_len caller.contexts ≤ vec_capacity caller.done) }
+    requires own { All (λ c. MayFlow F.may (device_of site.now) c.handle c.flow) caller.seated_flows.items }
+    requires own_room { vec_len team.flows + vec_len caller.seated_flows ≤ vec_capacity caller.seated_flows }
+    requires done { (caller.done.items ≡ []) × (vec_len team.flows + vec_len caller.seated_flows ≤ vec_capacity caller.done) }
     requires help { caller.help ≡ None }
     ensures flowed { HaveFlowed F.does (device_of site.now) 0 team.flows.items result.team.flows.items result.team.ends.items result.team.handles.items }
     ensures handles { vec_len result.team.handles ≡ vec_len team.handles }
@@ -215,8 +220,8 @@ pub(crate) fn run_team<'s, C, R: Threads + Wait + Sync, E: Engine + Send + 's, F
     ensures worked { HaveWorked E.run_count E.fault_count (device_of site.now) 0 result.run.crew.jobs.items crew.engines.items result.run.crew.engines.items }
     ensures jobs { vec_len result.run.crew.jobs ≡ vec_len crew.jobs }
     ensures engines { vec_len result.run.crew.engines ≡ vec_len crew.engines }
-    ensures own { ArePaired (λ c d. HasFlowed F.does c.flow d.flow d.end c.handle d.handle) caller.contexts.items result.run.called.done.items }
-    ensures own_all { vec_len result.run.called.done ≡ vec_len caller.contexts }
+    ensures own { ArePaired (λ c d. HasFlowed F.does c.flow d.flow d.end c.handle d.handle) caller.seated_flows.items result.run.called.done.items }
+    ensures own_all { vec_len result.run.called.done ≡ vec_len caller.seated_flows }
 {
     let Team {
         handles,
@@ -243,7 +248,14 @@ pub(crate) fn run_team<'s, C, R: Threads + Wait + Sync, E: Engine + Send + 's, F
         flows,
         ends,
     };
-    match begin(scope, rt, alloc, site, is_refused, Context { handle, flow }) {
+    match begin(
+        scope,
+        rt,
+        alloc,
+        site,
+        is_refused,
+        SeatedFlow { handle, flow },
+    ) {
         Ok(started) => {
             let ran = run_team(scope, rt, alloc, site, team, crew, caller);
             ran.with_done(behind(rt, alloc, site, started.join(rt)))
@@ -252,8 +264,8 @@ pub(crate) fn run_team<'s, C, R: Threads + Wait + Sync, E: Engine + Send + 's, F
             let ran = run_team(scope, rt, alloc, site, team, crew, caller);
             ran.with_done(done)
         }
-        Err(Err(context)) => {
-            let caller = caller.with_context(context);
+        Err(Err(seated)) => {
+            let caller = caller.with_flow(seated);
             let ran = run_team(scope, rt, alloc, site, team, crew, caller);
             let (ran, own) = ran.without_own();
             ran.with_done(own)

@@ -1,9 +1,10 @@
 //! Several flows together beside workers.
 
-ghost use Rattle.std.specs.Prelude.{◌≡◌, ◌≤◌, ◌+◌, [], ℕ, None, All, IfOk, IfErr, map, take, drop, vec_len, vec_capacity};
-ghost use Rattle.vc_shared.specs.Making.{AreNewHandles, AreNewWorkers};
+ghost use Rattle.std.specs.Prelude.{◌≡◌, ◌≤◌, ℕ, All, IfOk, IfErr, take, drop, vec_len};
+ghost use Rattle.vc_crew.specs.Counts.{counts_of};
 ghost use Rattle.vc_crew.specs.Workers.{HaveWorked};
 ghost use Rattle.vc_crew.specs.Flowing.{HaveFlowed};
+ghost use Rattle.vc_crew.specs.Ready.{IsCallerFree, IsCrewReady, IsTeamReady};
 ghost use Rattle.vc_crew.specs.Together.{RanTogether};
 ghost use Rattle.vc_crew.specs.Sites.{device_of};
 
@@ -28,7 +29,7 @@ fn run_scope<R: Threads + Wait + Sync, E: Engine + Send, F: Flow + Send>(
     crew: Crew<E>,
     caller: Caller<E, F>,
 ) -> Ran<E, F>
-    requires ready { AreNewHandles (device_of site.now) (vec_len team.handles) team.handles.items × (vec_len team.handles ≡ vec_len team.flows) × All (λ f. F.may f) team.flows.items × (team.ends.items ≡ []) × (vec_len team.flows ≤ vec_capacity team.ends) × (vec_len team.flows ≤ vec_len site.now.refused_flows) × AreNewWorkers (device_of site.now) (vec_len crew.jobs) crew.jobs.items × (vec_len crew.jobs ≤ vec_len crew.engines) × (vec_len crew.jobs ≤ vec_len site.now.refused_workers) × (caller.contexts.items ≡ []) × (vec_len team.flows ≤ vec_capacity caller.contexts) × (caller.done.items ≡ []) × (vec_len team.flows ≤ vec_capacity caller.done) × (caller.help ≡ None) }
+    requires ready { IsTeamReady F.may site.now team × IsCrewReady site.now crew × IsCallerFree (vec_len team.flows) caller }
     ensures flowed { HaveFlowed F.does (device_of site.now) 0 team.flows.items result.team.flows.items result.team.ends.items result.team.handles.items }
     ensures flows { vec_len result.team.flows ≡ vec_len team.flows }
     ensures handles { vec_len result.team.handles ≡ vec_len team.handles }
@@ -40,7 +41,7 @@ fn run_scope<R: Threads + Wait + Sync, E: Engine + Send, F: Flow + Send>(
         thread::scope_env(),
         rt,
         move |scope| -> Ran<E, F>
-            requires { AreNewHandles (device_of site.now) (vec_len team.handles) team.handles.items × (vec_len team.handles ≡ vec_len team.flows) × All (λ f. F.may f) team.flows.items × (team.ends.items ≡ []) × (vec_len team.flows ≤ vec_capacity team.ends) × (vec_len team.flows ≤ vec_len site.now.refused_flows) × AreNewWorkers (device_of site.now) (vec_len crew.jobs) crew.jobs.items × (vec_len crew.jobs ≤ vec_len crew.engines) × (vec_len crew.jobs ≤ vec_len site.now.refused_workers) × (caller.contexts.items ≡ []) × (vec_len team.flows ≤ vec_capacity caller.contexts) × (caller.done.items ≡ []) × (vec_len team.flows ≤ vec_capacity caller.done) × (caller.help ≡ None) }
+            requires { IsTeamReady F.may site.now team × IsCrewReady site.now crew × IsCallerFree (vec_len team.flows) caller }
             ensures flowed { HaveFlowed F.does (device_of site.entry.now) 0 team.flows.items result.team.flows.items result.team.ends.items result.team.handles.items }
             ensures flows { vec_len result.team.flows ≡ vec_len team.flows }
             ensures handles { vec_len result.team.handles ≡ vec_len team.handles }
@@ -57,7 +58,7 @@ fn run_scope<R: Threads + Wait + Sync, E: Engine + Send, F: Flow + Send>(
 /// until the last flow has ended. It returns when all threads have ended. It may wait, as its flows may.
 ///
 /// It answers how the flows ended, in their order. All flows and all engines come back, each at its place. The engines
-/// behind the first ones, of which each worker has one, are not used. Where memory is wanting, nothing was done.
+/// behind the first ones, of which each worker has one, are not used. Out of memory, nothing was done.
 pub fn run_together<R: Threads + Wait + Sync, E: Engine + Send, F: Flow + Send>(
     rt: &R,
     alloc: Global,
@@ -69,7 +70,9 @@ pub fn run_together<R: Threads + Wait + Sync, E: Engine + Send, F: Flow + Send>(
     requires engines { workers ≤ vec_len engines.old }
     requires flows { (1 ≤ vec_len flows.old) × (vec_len flows.old ≤ 1024) }
     requires may { All (λ f. F.may f) flows.old.items }
-    ensures ran { IfOk result (λ ends. RanTogether F.does flows.old.items flows.new.items ends.items (map (λ e. E.run_count e) (take workers engines.old.items)) (map (λ e. E.run_count e) (take workers engines.new.items)) (map (λ e. E.fault_count e) (take workers engines.old.items)) (map (λ e. E.fault_count e) (take workers engines.new.items))) }
+    ensures ran { let before = take workers (counts_of E.run_count E.fault_count engines.old.items) in
+        let after = take workers (counts_of E.run_count E.fault_count engines.new.items) in
+        IfOk result (λ ends. RanTogether F.does flows.old.items flows.new.items ends.items before after) }
     ensures refused { IfErr result (λ _. (flows.new ≡ flows.old) × (engines.new ≡ engines.old)) }
     ensures crew { vec_len engines.new ≡ vec_len engines.old }
     ensures others { drop workers engines.new.items ≡ drop workers engines.old.items }

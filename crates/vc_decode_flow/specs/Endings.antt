@@ -7,14 +7,14 @@ use Rattle.vc_defs.specs.Outputs.{decode_output, is_damaged_input, is_damage, in
 use Rattle.vc_model.specs.Solo.{SoloEvent}
 use Rattle.vc_port.specs.Payloads.{bytes_out, good_finishes}
 use Rattle.vc_coverage.specs.Covering.{CoverageState, HasRead}
-use Rattle.vc_encode_flow.specs.Flows.{HandedFirst}
+use Rattle.vc_flow.specs.Calls.{HandedFirst}
 
 -- the bytes are the output that is defined for the input, where the input is known
 abbrev pub IsOutput : Option (List ℕ) → List ℕ → Type 0
 IsOutput None bytes = ⊤
 IsOutput (Some input) bytes = bytes ≡ decode_output input
 
--- they are a front of it
+-- they are a prefix of it
 abbrev pub IsFrontOfOutput : Option (List ℕ) → List ℕ → Type 0
 IsFrontOfOutput None bytes = ⊤
 IsFrontOfOutput (Some input) bytes = (more : List ℕ) × (decode_output input ≡ bytes ++ more)
@@ -39,7 +39,7 @@ pub record IsWritten (damaged : Bool) (left left_now written written_now : Optio
   pub handed : bytes_out events ≡ bytes_out start ++ bytes
   pub finishes : HasFinishes left start events
 
--- What was written is a front of the output, and of what was handed out.
+-- What was written is a prefix of the output, and of what was handed out.
 pub record IsFrontWritten (left written written_now : Option (List ℕ)) (start events : List SoloEvent) : Type 0 where
   pub bytes : List ℕ
   pub wrote : Appends written written_now bytes

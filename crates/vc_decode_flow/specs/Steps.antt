@@ -8,9 +8,9 @@ use Rattle.vc_queue.specs.Holds.{HoldState, held_payload}
 use Rattle.vc_port.specs.Payloads.{bytes_out}
 use Rattle.vc_base.specs.declared.Side.TheVariants.{Cap}
 use Rattle.vc_coverage.specs.Covering.{CoverageState, HasRead}
-use Rattle.vc_encode_flow.specs.Endings.{BeginsWith}
-use Rattle.vc_encode_flow.specs.Flows.{HandedFirst}
-use Rattle.vc_encode_flow.specs.Steps.{HasBytes}
+use Rattle.vc_flow.specs.Inputs.{BeginsWith}
+use Rattle.vc_flow.specs.Calls.{HandedFirst}
+use Rattle.vc_flow.specs.Buffers.{HasBytes}
 use Rattle.vc_stream_laws.specs.Streams.{StreamSoFar, stream_at_start, with_queued, KnownStop, not_known, some_stop, stop_by_change, IsStream, IsUnspoilt}
 use Rattle.vc_decode_flow.specs.declared.taking.Taken.{Taken}
 
@@ -46,7 +46,7 @@ abbrev pub with_picture : StreamSoFar → Taken → List ℕ → StreamSoFar
 with_picture f t picture =
     record f { handed = f.handed ++ picture; damaged = f.damaged || t.damaged; known = known_after t.last f.known }
 
--- a picture, empty for a damaged frame, was handed out, and is the front of the payload
+-- a picture, empty for a damaged frame, was handed out, and is what the payload begins with
 pub record IsTaken (start : List SoloEvent) (f : StreamSoFar) (t : Taken) (payload : Option (List ℕ)) (old new : List SoloEvent) : Type 0 where
   pub picture : List ℕ
   pub stream : IsStream start (with_picture f t picture) new
@@ -86,18 +86,18 @@ with_change f = record f { known = stop_by_change }
 
 -- Writing
 
--- the bytes are a front of the output of every input that begins with what was queued
+-- the bytes are a prefix of the output of every input that begins with what was queued
 abbrev pub IsFrontFor : List ℕ → List ℕ → Type 0
 IsFrontFor queued bytes = (input : List ℕ) → IsPrefix queued input → IsPrefix bytes (decode_output input)
 
--- All that was handed out was written, and it is a front of the output.
+-- All that was handed out was written, and it is a prefix of the output.
 pub record IsAt (start : List SoloEvent) (f : StreamSoFar) (first written : Option (List ℕ)) (events : List SoloEvent) : Type 0 where
   pub stream : IsStream start f events
   pub handed : bytes_out events ≡ bytes_out start ++ f.handed
   pub wrote : Appends first written f.handed
   pub front : IsFrontFor f.queued f.handed
 
--- What was written is a front of the output, and of what was handed out.
+-- What was written is a prefix of the output, and of what was handed out.
 pub record StopsEarly (start : List SoloEvent) (queued : List ℕ) (first written : Option (List ℕ)) (events : List SoloEvent) : Type 0 where
   pub bytes : List ℕ
   pub wrote : Appends first written bytes
@@ -120,13 +120,13 @@ pub record HasWritten (start : List SoloEvent) (f : StreamSoFar) (t : Taken) (fi
 -- Phases
 
 -- nothing of CAPTURE was set up
-abbrev pub seeking_stream : List ℕ → StreamSoFar
-seeking_stream queued = record stream_at_start { queued = queued }
+abbrev pub probed_stream : List ℕ → StreamSoFar
+probed_stream queued = record stream_at_start { queued = queued }
 
 -- What was read of the input was queued, and nothing was handed out.
-pub record IsSeeking (start : List SoloEvent) (left left_now : Option (List ℕ)) (coverage : CoverageState) (ended : Bool) (events : List SoloEvent) : Type 0 where
+pub record IsProbing (start : List SoloEvent) (left left_now : Option (List ℕ)) (coverage : CoverageState) (ended : Bool) (events : List SoloEvent) : Type 0 where
   pub queued : List ℕ
-  pub stream : IsStream start (seeking_stream queued) events
+  pub stream : IsStream start (probed_stream queued) events
   pub handed : bytes_out events ≡ bytes_out start
   pub read : IsRead left left_now coverage ended queued
 

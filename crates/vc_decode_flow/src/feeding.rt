@@ -1,32 +1,17 @@
 //! Feeds the input to a flow.
 
-ghost use Rattle.std.specs.Prelude.{◌≡◌, ◌≢◌, ◌<◌, ◌≤◌, ◌^◌, ℕ, true, false, List, Option, length, OnOk, IfErr, IsErrOf};
-ghost use Rattle.vc_base.specs.declared.Side.TheVariants.{Out};
+ghost use Rattle.std.specs.Prelude.{◌≡◌, ◌≢◌, ◌<◌, ◌≤◌, ◌^◌, length, IfErr, IsErrOf};
 ghost use Rattle.vc_base.specs.Counts.{Rose};
-ghost use Rattle.vc_model.specs.Solo.{SoloEvent};
-ghost use Rattle.vc_queue.specs.Holds.{held_payload, HasRoom};
 ghost use Rattle.vc_port.specs.Payloads.{bytes_out};
-ghost use Rattle.vc_encode_flow.specs.Endings.{IsLong};
-ghost use Rattle.vc_stream_laws.specs.Streams.{StreamSoFar, with_queued, IsStream};
-ghost use Rattle.vc_decode_flow.specs.Steps.{IsRead, HasFed};
+ghost use Rattle.vc_stream_laws.specs.Streams.{with_queued};
+ghost use Rattle.vc_decode_flow.specs.Promises.{UnendedMoves, Feeds, FeedingTellsLong};
 
-use crate::ends::Stop;
 use crate::opening::OUT_BUFFERS;
 use crate::reading::Reading;
-use vc_base::{Call, Reply, Side, Stamp};
+use vc_base::Side;
+use vc_flow::{Stop, queue_source};
 use vc_io::Source;
 use vc_port::PayloadPort;
-use vc_wait::call_on;
-
-/// Whether the user has the OUTPUT buffer, with room for the piece.
-fn has_room<P: PayloadPort>(port: &P, index: u32, piece: &[u8]) -> bool
-    ensures { result ≡ true → HasRoom (held_payload (P.hold port.now) Out index) piece.now }
-{
-    match port.payload(Side::Out, index) {
-        Some(payload) => piece.len() <= payload.len(),
-        None => false,
-    }
-}
 
 /// Whether the user has the OUTPUT buffer.
 fn is_free<P: PayloadPort>(port: &P, index: u32) -> bool {
@@ -44,24 +29,11 @@ fn queue_piece<P: PayloadPort>(port: &mut P, index: u32, piece: &[u8]) -> Result
     requires short { length piece.now < 2 ^ 32 }
     ensures ready { P.ready port.new }
     ensures follows { P.follows port.old port.new }
-    ensures stream { (start : List SoloEvent) (f : StreamSoFar) → f.ends ≡ false → IsStream start f (P.events port.old) → OnOk result (IsStream start (with_queued f piece.now) (P.events port.new)) }
+    ensures stream { UnendedMoves (λ f. with_queued f piece.now) result (P.events port.old) (P.events port.new) }
     ensures bytes { bytes_out (P.events port.new) ≡ bytes_out (P.events port.old) }
     ensures memory { IfErr result (λ stop. stop ≡ Stop.NoMemory) }
 {
-    if !has_room(port, index, piece) {
-        return Err(Stop::NoMemory);
-    }
-    port.fill(Side::Out, index, piece);
-    let call = Call::QBuf {
-        side: Side::Out,
-        index,
-        used: piece.len() as u32,
-        stamp: Stamp(0),
-    };
-    match call_on(port, &call) {
-        Reply::Done => Ok(()),
-        _ => Err(Stop::NoMemory),
-    }
+    queue_source(port, index, piece)
 }
 
 /// Reads the next piece and queues it in the OUTPUT buffer, unless the input is at its end.
@@ -74,9 +46,9 @@ fn feed_one<P: PayloadPort, S: Source>(
     requires ready { P.ready port.old }
     ensures ready { P.ready port.new }
     ensures follows { P.follows port.old port.new }
-    ensures fed { (start : List SoloEvent) (f : StreamSoFar) (left : Option (List ℕ)) → f.ends ≡ false → IsStream start f (P.events port.old) → IsRead left (S.left source.old) reading.old.coverage reading.old.ended f.queued → OnOk result (HasFed start f left (S.left source.new) reading.new.coverage reading.new.ended (P.events port.new)) }
+    ensures fed { Feeds result S.left source.old source.new reading.old.coverage reading.new.coverage reading.old.ended reading.new.ended P.events port.old port.new }
     ensures bytes { bytes_out (P.events port.new) ≡ bytes_out (P.events port.old) }
-    ensures long { (start : List SoloEvent) (f : StreamSoFar) (left : Option (List ℕ)) → f.ends ≡ false → IsStream start f (P.events port.old) → IsRead left (S.left source.old) reading.old.coverage reading.old.ended f.queued → IsErrOf result Stop.TooLong → IsLong left (S.left source.new) }
+    ensures long { FeedingTellsLong result S.left source.old source.new reading.old.coverage reading.old.ended (P.events port.old) }
     ensures later { S.faults source.old ≤ S.faults source.new }
     ensures fault { IsErrOf result Stop.ReadFault → Rose (S.faults source.old) (S.faults source.new) }
     ensures stops { IfErr result (λ stop. (stop ≢ Stop.WriteFault) × (stop ≢ Stop.EngineFault)) }
@@ -100,9 +72,9 @@ pub(crate) fn feed<P: PayloadPort, S: Source>(
     requires ready { P.ready port.old }
     ensures ready { P.ready port.new }
     ensures follows { P.follows port.old port.new }
-    ensures fed { (start : List SoloEvent) (f : StreamSoFar) (left : Option (List ℕ)) → f.ends ≡ false → IsStream start f (P.events port.old) → IsRead left (S.left source.old) reading.old.coverage reading.old.ended f.queued → OnOk result (HasFed start f left (S.left source.new) reading.new.coverage reading.new.ended (P.events port.new)) }
+    ensures fed { Feeds result S.left source.old source.new reading.old.coverage reading.new.coverage reading.old.ended reading.new.ended P.events port.old port.new }
     ensures bytes { bytes_out (P.events port.new) ≡ bytes_out (P.events port.old) }
-    ensures long { (start : List SoloEvent) (f : StreamSoFar) (left : Option (List ℕ)) → f.ends ≡ false → IsStream start f (P.events port.old) → IsRead left (S.left source.old) reading.old.coverage reading.old.ended f.queued → IsErrOf result Stop.TooLong → IsLong left (S.left source.new) }
+    ensures long { FeedingTellsLong result S.left source.old source.new reading.old.coverage reading.old.ended (P.events port.old) }
     ensures later { S.faults source.old ≤ S.faults source.new }
     ensures fault { IsErrOf result Stop.ReadFault → Rose (S.faults source.old) (S.faults source.new) }
     ensures stops { IfErr result (λ stop. (stop ≢ Stop.WriteFault) × (stop ≢ Stop.EngineFault)) }

@@ -1,25 +1,24 @@
 //! The flow: a coded stream in, pictures out.
 
-ghost use Rattle.std.specs.Prelude.{◌≡◌, ◌≢◌, ◌<◌, ◌≤◌, ℕ, true, false, None, List, Option, Ok, Err, OnOk, OnErr, IfOk, IfErr, IsErrOf};
+ghost use Rattle.std.specs.Prelude.{◌≡◌, ◌≢◌, ◌<◌, ◌≤◌, true, false, None, Ok, Err, OnOk, OnErr, IsErrOf};
 ghost use Rattle.vc_base.specs.Counts.{Rose};
-ghost use Rattle.vc_model.specs.Solo.{SoloEvent};
 ghost use Rattle.vc_port.specs.Payloads.{slot_after, faulty_finishes};
-ghost use Rattle.vc_encode_flow.specs.Endings.{IsLong};
-ghost use Rattle.vc_decode_flow.specs.Steps.{IsSeeking, IsDecoding, IsCutShort};
-ghost use Rattle.vc_decode_flow.specs.Endings.{IsAllWritten, IsThrough, IsWritten, IsFrontWritten};
+ghost use Rattle.vc_flow.specs.Faults.{HasFailed, ShowsFault};
+ghost use Rattle.vc_flow.specs.Inputs.{IsLong};
+ghost use Rattle.vc_decode_flow.specs.Steps.{IsCutShort};
+ghost use Rattle.vc_decode_flow.specs.Endings.{IsFrontWritten};
+ghost use Rattle.vc_decode_flow.specs.Promises.{ProbingTellsLong, ProbingTellsFault, Decodes, DecodingIsCut, DecodingTellsLong, DecodingTellsFault, DecodesAll, AllIsCut, RunsThrough, WritesAll};
 
-use crate::closing::close_slot;
 use crate::draining::drain;
-use crate::ends::Stop;
 use crate::feeding::feed;
 use crate::opening::open_decoder;
+use crate::probing::find_geometry;
 use crate::reading::Reading;
 use crate::rounds::{go_round, is_either_damaged};
-use crate::seeking::find_geometry;
 use crate::setting::{restart, set_up};
 use std::alloc::Global;
 use std::sync::Wait;
-use vc_encode_flow::FlowEnd;
+use vc_flow::{FlowEnd, Stop, close_slot};
 use vc_io::{Sink, Source};
 use vc_port::PayloadPort;
 
@@ -34,11 +33,11 @@ fn decode_input<R: Wait, P: PayloadPort, S: Source, K: Sink>(
     requires ready { P.ready port.old }
     ensures ready { P.ready port.new }
     ensures follows { P.follows port.old port.new }
-    ensures decodes { (start : List SoloEvent) (first left : Option (List ℕ)) → IsDecoding start false first (K.written sink.old) left (S.left source.old) reading.old.coverage reading.old.ended (P.events port.old) → IfOk result (λ damaged. IsDecoding start damaged first (K.written sink.new) left (S.left source.new) reading.new.coverage reading.new.ended (P.events port.new)) }
+    ensures decodes { Decodes result S.left source.old source.new K.written sink.old sink.new reading.old.coverage reading.new.coverage reading.old.ended reading.new.ended P.events port.old port.new }
     ensures ended { OnOk result (reading.new.ended ≡ true) }
-    ensures cut { (start : List SoloEvent) (first left : Option (List ℕ)) → IsDecoding start false first (K.written sink.old) left (S.left source.old) reading.old.coverage reading.old.ended (P.events port.old) → OnErr result (IsCutShort start first (K.written sink.new) left (P.events port.new)) }
-    ensures long { (start : List SoloEvent) (first left : Option (List ℕ)) → IsDecoding start false first (K.written sink.old) left (S.left source.old) reading.old.coverage reading.old.ended (P.events port.old) → IsErrOf result Stop.TooLong → IsLong left (S.left source.new) }
-    ensures engine { (start : List SoloEvent) (first left : Option (List ℕ)) → IsDecoding start false first (K.written sink.old) left (S.left source.old) reading.old.coverage reading.old.ended (P.events port.old) → IsErrOf result Stop.EngineFault → faulty_finishes start < faulty_finishes (P.events port.new) }
+    ensures cut { DecodingIsCut result (S.left source.old) K.written sink.old sink.new reading.old.coverage reading.old.ended P.events port.old port.new }
+    ensures long { DecodingTellsLong result S.left source.old source.new (K.written sink.old) reading.old.coverage reading.old.ended (P.events port.old) }
+    ensures engine { DecodingTellsFault result (S.left source.old) (K.written sink.old) reading.old.coverage reading.old.ended (P.events port.old) (P.events port.new) }
     ensures source_later { S.faults source.old ≤ S.faults source.new }
     ensures sink_later { K.faults sink.old ≤ K.faults sink.new }
     ensures read { IsErrOf result Stop.ReadFault → Rose (S.faults source.old) (S.faults source.new) }
@@ -80,10 +79,10 @@ fn decode_all<R: Wait, P: PayloadPort, S: Source, K: Sink>(
     requires ready { P.ready port.old }
     ensures ready { P.ready port.new }
     ensures follows { P.follows port.old port.new }
-    ensures all { (start : List SoloEvent) (left : Option (List ℕ)) → IsSeeking start left (S.left source.old) reading.old.coverage reading.old.ended (P.events port.old) → IfOk result (λ damaged. IsAllWritten start damaged (K.written sink.old) (K.written sink.new) left (S.left source.new) reading.new.coverage (P.events port.new)) }
-    ensures cut { (start : List SoloEvent) (left : Option (List ℕ)) → IsSeeking start left (S.left source.old) reading.old.coverage reading.old.ended (P.events port.old) → OnErr result (IsCutShort start (K.written sink.old) (K.written sink.new) left (P.events port.new)) }
-    ensures long { (start : List SoloEvent) (left : Option (List ℕ)) → IsSeeking start left (S.left source.old) reading.old.coverage reading.old.ended (P.events port.old) → IsErrOf result Stop.TooLong → IsLong left (S.left source.new) }
-    ensures engine { (start : List SoloEvent) (left : Option (List ℕ)) → IsSeeking start left (S.left source.old) reading.old.coverage reading.old.ended (P.events port.old) → IsErrOf result Stop.EngineFault → faulty_finishes start < faulty_finishes (P.events port.new) }
+    ensures all { DecodesAll result S.left source.old source.new K.written sink.old sink.new reading.old.coverage reading.new.coverage reading.old.ended P.events port.old port.new }
+    ensures cut { AllIsCut result (S.left source.old) K.written sink.old sink.new reading.old.coverage reading.old.ended P.events port.old port.new }
+    ensures long { ProbingTellsLong result S.left source.old source.new reading.old.coverage reading.old.ended (P.events port.old) }
+    ensures engine { ProbingTellsFault result (S.left source.old) reading.old.coverage reading.old.ended (P.events port.old) (P.events port.new) }
     ensures source_later { S.faults source.old ≤ S.faults source.new }
     ensures sink_later { K.faults sink.old ≤ K.faults sink.new }
     ensures read { IsErrOf result Stop.ReadFault → Rose (S.faults source.old) (S.faults source.new) }
@@ -107,10 +106,10 @@ fn decode_open<R: Wait, P: PayloadPort, S: Source, K: Sink>(
     requires ready { P.ready port.old }
     ensures ready { P.ready port.new }
     ensures follows { P.follows port.old port.new }
-    ensures all { (start : List SoloEvent) (left : Option (List ℕ)) → IsSeeking start left (S.left source.old) reading.old.coverage reading.old.ended (P.events port.old) → IfOk result (λ damaged. IsAllWritten start damaged (K.written sink.old) (K.written sink.new) left (S.left source.new) reading.new.coverage (P.events port.new)) }
-    ensures cut { (start : List SoloEvent) (left : Option (List ℕ)) → IsSeeking start left (S.left source.old) reading.old.coverage reading.old.ended (P.events port.old) → OnErr result (IsCutShort start (K.written sink.old) (K.written sink.new) left (P.events port.new)) }
-    ensures long { (start : List SoloEvent) (left : Option (List ℕ)) → IsSeeking start left (S.left source.old) reading.old.coverage reading.old.ended (P.events port.old) → IsErrOf result Stop.TooLong → IsLong left (S.left source.new) }
-    ensures engine { (start : List SoloEvent) (left : Option (List ℕ)) → IsSeeking start left (S.left source.old) reading.old.coverage reading.old.ended (P.events port.old) → IsErrOf result Stop.EngineFault → faulty_finishes start < faulty_finishes (P.events port.new) }
+    ensures all { DecodesAll result S.left source.old source.new K.written sink.old sink.new reading.old.coverage reading.new.coverage reading.old.ended P.events port.old port.new }
+    ensures cut { AllIsCut result (S.left source.old) K.written sink.old sink.new reading.old.coverage reading.old.ended P.events port.old port.new }
+    ensures long { ProbingTellsLong result S.left source.old source.new reading.old.coverage reading.old.ended (P.events port.old) }
+    ensures engine { ProbingTellsFault result (S.left source.old) reading.old.coverage reading.old.ended (P.events port.old) (P.events port.new) }
     ensures source_later { S.faults source.old ≤ S.faults source.new }
     ensures sink_later { K.faults sink.old ≤ K.faults sink.new }
     ensures read { IsErrOf result Stop.ReadFault → Rose (S.faults source.old) (S.faults source.new) }
@@ -139,10 +138,10 @@ fn run_flow<R: Wait, P: PayloadPort, S: Source, K: Sink>(
     requires closed { slot_after (P.events port.old) ≡ None }
     ensures ready { P.ready port.new }
     ensures follows { P.follows port.old port.new }
-    ensures through { IfOk result (λ damaged. IsThrough (P.events port.old) damaged (K.written sink.old) (K.written sink.new) (S.left source.old) (S.left source.new) (P.events port.new)) }
+    ensures through { RunsThrough result S.left source.old source.new K.written sink.old sink.new P.events port.old port.new }
     ensures cut { OnErr result (IsCutShort (P.events port.old) (K.written sink.old) (K.written sink.new) (S.left source.old) (P.events port.new)) }
     ensures long { IsErrOf result Stop.TooLong → IsLong (S.left source.old) (S.left source.new) }
-    ensures engine { IsErrOf result Stop.EngineFault → faulty_finishes (P.events port.old) < faulty_finishes (P.events port.new) }
+    ensures engine { IsErrOf result Stop.EngineFault → HasFailed (P.events port.old) (P.events port.new) }
     ensures source_later { S.faults source.old ≤ S.faults source.new }
     ensures sink_later { K.faults sink.old ≤ K.faults sink.new }
     ensures read { IsErrOf result Stop.ReadFault → Rose (S.faults source.old) (S.faults source.new) }
@@ -172,18 +171,14 @@ fn end_of(ended: Result<bool, Stop>) -> FlowEnd
     match ended {
         Ok(false) => FlowEnd::Whole,
         Ok(true) => FlowEnd::Damaged,
-        Err(Stop::ReadFault) => FlowEnd::ReadFault,
-        Err(Stop::WriteFault) => FlowEnd::WriteFault,
-        Err(Stop::EngineFault) => FlowEnd::EngineFault,
-        Err(Stop::TooLong) => FlowEnd::TooLong,
-        Err(Stop::NoMemory) => FlowEnd::NoMemory,
+        Err(stop) => stop.end(),
     }
 }
 
 /// Decodes the coded stream of the input with one decoder of the device, and writes its good pictures, each in the first
 /// raw format of its layout (docs/FORMAT.md, "The sequential decoder").
 ///
-/// The slot is closed before and after. What is written is a front of the pictures of the input, and of what the slot
+/// The slot is closed before and after. What is written is a prefix of the pictures of the input, and of what the slot
 /// handed out; it is all of both where the flow ends with `Whole`, and with `Damaged`, where the input has a damaged frame
 /// or a byte in no frame. The flow never ends with `ShortRaw`.
 ///
@@ -203,14 +198,15 @@ pub fn decode_on<R: Wait, P: PayloadPort, S: Source, K: Sink>(
     ensures ready { P.ready port.new }
     ensures follows { P.follows port.old port.new }
     ensures closed { slot_after (P.events port.new) ≡ None }
-    ensures whole { result ≡ FlowEnd.Whole → IsWritten false (S.left source.old) (S.left source.new) (K.written sink.old) (K.written sink.new) (P.events port.old) (P.events port.new) }
-    ensures damaged { result ≡ FlowEnd.Damaged → IsWritten true (S.left source.old) (S.left source.new) (K.written sink.old) (K.written sink.new) (P.events port.old) (P.events port.new) }
+    ensures whole { result ≡ FlowEnd.Whole → WritesAll false S.left source.old source.new K.written sink.old sink.new P.events port.old port.new }
+    ensures damaged { result ≡ FlowEnd.Damaged → WritesAll true S.left source.old source.new K.written sink.old sink.new P.events port.old port.new }
     ensures front { IsFrontWritten (S.left source.old) (K.written sink.old) (K.written sink.new) (P.events port.old) (P.events port.new) }
     ensures source_later { S.faults source.old ≤ S.faults source.new }
     ensures sink_later { K.faults sink.old ≤ K.faults sink.new }
     ensures read { result ≡ FlowEnd.ReadFault → Rose (S.faults source.old) (S.faults source.new) }
     ensures write { result ≡ FlowEnd.WriteFault → Rose (K.faults sink.old) (K.faults sink.new) }
     ensures engine { result ≡ FlowEnd.EngineFault → faulty_finishes (P.events port.old) < faulty_finishes (P.events port.new) }
+    ensures shown { result ≡ FlowEnd.EngineFault → ShowsFault (P.events port.old) (P.events port.new) }
     ensures long { result ≡ FlowEnd.TooLong → IsLong (S.left source.old) (S.left source.new) }
     ensures no_raw { result ≢ FlowEnd.ShortRaw }
 {

@@ -4,17 +4,15 @@
 //! the slot hands out to a sink.
 #![tactic(auto)]
 
-mod closing;
 mod draining;
-mod ends;
 mod feeding;
 mod flowing;
 mod opening;
+mod probing;
 mod reading;
 mod rounds;
-mod seeking;
 mod setting;
 mod taking;
 
 pub use flowing::decode_on;
-pub use vc_encode_flow::FlowEnd;
+pub use vc_flow::FlowEnd;

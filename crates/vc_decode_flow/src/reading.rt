@@ -1,24 +1,20 @@
 //! Reads the input of a flow by pieces.
 
-ghost use Rattle.std.specs.Prelude.{◌≡◌, ◌≢◌, ◌≤◌, ◌<◌, ◌++◌, ℕ, true, false, List, [], Option, take, vec_len, length, OnOk, IfOk, IfErr, IsErrOf};
+ghost use Rattle.std.specs.Prelude.{◌≡◌, ◌≢◌, ◌≤◌, ℕ, true, false, List, [], take, vec_len, length, OnOk, IfOk, IfErr, IsErrOf};
 ghost use Rattle.vc_base.specs.Counts.{Rose};
-ghost use Rattle.vc_defs.specs.Headers.{most_bytes};
+ghost use Rattle.vc_base.specs.Limits.{most_bytes};
 ghost use Rattle.vc_defs.specs.Places.{leaves_a_byte};
 ghost use Rattle.vc_coverage.specs.Covering.{HasRead};
 ghost use Rattle.vc_coverage.specs.KeyHeaders.{has_key_header};
-ghost use Rattle.vc_encode_flow.specs.Endings.{IsLong};
-ghost use Rattle.vc_decode_flow.specs.Steps.{IsRead};
+ghost use Rattle.vc_decode_flow.specs.Promises.{ReadsOn, ReadingTellsLong};
 
-use crate::ends::Stop;
 use std::alloc::Global;
 use vc_coverage::Coverage;
+use vc_flow::{MOST_INPUT, Stop};
 use vc_io::Source;
 
 /// The most bytes of a piece.
 const PIECE: usize = 65_536;
-
-/// The most bytes of an input.
-const MAX_INPUT: u64 = 1 << 40;
 
 /// The bytes that were read: which of them lie in no frame, the latest piece, and whether they are the whole input.
 #[derive(Drop)]
@@ -62,14 +58,14 @@ impl Reading {
 
     /// Reads the next piece, which is empty at the end of the input.
     pub(crate) fn next<S: Source>(&mut self, source: &mut S) -> Result<(), Stop>
-        ensures read { (left : Option (List ℕ)) (bytes : List ℕ) → IsRead left (S.left source.old) self.old.coverage self.old.ended bytes → OnOk result (IsRead left (S.left source.new) self.new.coverage self.new.ended (bytes ++ take self.new.count self.new.piece.items)) }
+        ensures read { ReadsOn result (take self.new.count self.new.piece.items) (S.left source.old) (S.left source.new) self.old.coverage self.new.coverage self.old.ended self.new.ended }
         ensures none { OnOk result (self.new.ended ≡ true → self.new.count ≡ 0) }
-        ensures long { (left : Option (List ℕ)) (bytes : List ℕ) → IsRead left (S.left source.old) self.old.coverage self.old.ended bytes → IsErrOf result Stop.TooLong → IsLong left (S.left source.new) }
+        ensures long { ReadingTellsLong result (S.left source.old) (S.left source.new) self.old.coverage self.old.ended }
         ensures later { S.faults source.old ≤ S.faults source.new }
         ensures fault { IsErrOf result Stop.ReadFault → Rose (S.faults source.old) (S.faults source.new) }
         ensures stops { IfErr result (λ stop. (stop ≢ Stop.WriteFault) × (stop ≢ Stop.EngineFault)) }
     {
-        if self.coverage.count() >= MAX_INPUT {
+        if self.coverage.count() >= MOST_INPUT {
             return Err(Stop::TooLong);
         }
         let Ok(count) = source.read(&mut self.piece) else {

@@ -1,14 +1,13 @@
 //! Sets CAPTURE up, and restarts it.
 
-ghost use Rattle.std.specs.Prelude.{◌≡◌, List, OnOk, IfErr};
-ghost use Rattle.vc_model.specs.Solo.{SoloEvent};
+ghost use Rattle.std.specs.Prelude.{◌≡◌, IfErr};
 ghost use Rattle.vc_port.specs.Payloads.{bytes_out};
-ghost use Rattle.vc_stream_laws.specs.Streams.{StreamSoFar, stop_by_change, IsStream};
 ghost use Rattle.vc_decode_flow.specs.Steps.{with_captures, without_captures, restarted};
+ghost use Rattle.vc_decode_flow.specs.Promises.{StreamMoves, ChangedMoves};
 
-use crate::ends::Stop;
 use std::sync::Wait;
 use vc_base::{Call, Errno, Reply, Side, Stamp};
+use vc_flow::{Stop, call_done, request_buffers};
 use vc_port::PayloadPort;
 use vc_wait::{call_on, wait_on};
 
@@ -19,18 +18,11 @@ fn request_captures<P: PayloadPort>(port: &mut P) -> Result<(), Stop>
     requires ready { P.ready port.old }
     ensures ready { P.ready port.new }
     ensures follows { P.follows port.old port.new }
-    ensures stream { (start : List SoloEvent) (f : StreamSoFar) → IsStream start f (P.events port.old) → OnOk result (IsStream start f (P.events port.new)) }
+    ensures stream { StreamMoves (λ f. f) result (P.events port.old) (P.events port.new) }
     ensures bytes { bytes_out (P.events port.new) ≡ bytes_out (P.events port.old) }
     ensures memory { IfErr result (λ stop. stop ≡ Stop.NoMemory) }
 {
-    let call = Call::ReqBufs {
-        side: Side::Cap,
-        count: CAP_BUFFERS,
-    };
-    match call_on(port, &call) {
-        Reply::Count { .. } => Ok(()),
-        _ => Err(Stop::NoMemory),
-    }
+    request_buffers(port, Side::Cap, CAP_BUFFERS)
 }
 
 /// Queues a CAPTURE buffer, and tells whether it was long enough. It stays with the user where it is too short.
@@ -38,7 +30,7 @@ pub(crate) fn queue_capture<P: PayloadPort>(port: &mut P, index: u32) -> Result<
     requires ready { P.ready port.old }
     ensures ready { P.ready port.new }
     ensures follows { P.follows port.old port.new }
-    ensures stream { (start : List SoloEvent) (f : StreamSoFar) → IsStream start f (P.events port.old) → OnOk result (IsStream start f (P.events port.new)) }
+    ensures stream { StreamMoves (λ f. f) result (P.events port.old) (P.events port.new) }
     ensures bytes { bytes_out (P.events port.new) ≡ bytes_out (P.events port.old) }
     ensures memory { IfErr result (λ stop. stop ≡ Stop.NoMemory) }
 {
@@ -62,7 +54,7 @@ fn queue_captures<P: PayloadPort>(port: &mut P) -> Result<(), Stop>
     requires ready { P.ready port.old }
     ensures ready { P.ready port.new }
     ensures follows { P.follows port.old port.new }
-    ensures stream { (start : List SoloEvent) (f : StreamSoFar) → IsStream start f (P.events port.old) → OnOk result (IsStream start f (P.events port.new)) }
+    ensures stream { StreamMoves (λ f. f) result (P.events port.old) (P.events port.new) }
     ensures bytes { bytes_out (P.events port.new) ≡ bytes_out (P.events port.old) }
     ensures memory { IfErr result (λ stop. stop ≡ Stop.NoMemory) }
 {
@@ -78,14 +70,11 @@ fn stream_captures<P: PayloadPort>(port: &mut P) -> Result<(), Stop>
     requires ready { P.ready port.old }
     ensures ready { P.ready port.new }
     ensures follows { P.follows port.old port.new }
-    ensures stream { (start : List SoloEvent) (f : StreamSoFar) → IsStream start f (P.events port.old) → OnOk result (IsStream start (with_captures f) (P.events port.new)) }
+    ensures stream { StreamMoves with_captures result (P.events port.old) (P.events port.new) }
     ensures bytes { bytes_out (P.events port.new) ≡ bytes_out (P.events port.old) }
     ensures memory { IfErr result (λ stop. stop ≡ Stop.NoMemory) }
 {
-    match call_on(port, &Call::StreamOn { side: Side::Cap }) {
-        Reply::Done => Ok(()),
-        _ => Err(Stop::NoMemory),
-    }
+    call_done(port, &Call::StreamOn { side: Side::Cap })
 }
 
 /// Gives CAPTURE buffers of the present format, queues them and makes it stream.
@@ -93,7 +82,7 @@ pub(crate) fn set_up<P: PayloadPort>(port: &mut P) -> Result<(), Stop>
     requires ready { P.ready port.old }
     ensures ready { P.ready port.new }
     ensures follows { P.follows port.old port.new }
-    ensures stream { (start : List SoloEvent) (f : StreamSoFar) → IsStream start f (P.events port.old) → OnOk result (IsStream start (with_captures f) (P.events port.new)) }
+    ensures stream { StreamMoves with_captures result (P.events port.old) (P.events port.new) }
     ensures bytes { bytes_out (P.events port.new) ≡ bytes_out (P.events port.old) }
     ensures memory { IfErr result (λ stop. stop ≡ Stop.NoMemory) }
 {
@@ -106,7 +95,7 @@ fn stop_captures<R: Wait, P: PayloadPort>(rt: &R, port: &mut P) -> Result<(), St
     requires ready { P.ready port.old }
     ensures ready { P.ready port.new }
     ensures follows { P.follows port.old port.new }
-    ensures stream { (start : List SoloEvent) (f : StreamSoFar) → f.known ≡ stop_by_change → IsStream start f (P.events port.old) → OnOk result (IsStream start (without_captures f) (P.events port.new)) }
+    ensures stream { ChangedMoves without_captures result (P.events port.old) (P.events port.new) }
     ensures bytes { bytes_out (P.events port.new) ≡ bytes_out (P.events port.old) }
     ensures memory { IfErr result (λ stop. stop ≡ Stop.NoMemory) }
 {
@@ -121,7 +110,7 @@ pub(crate) fn restart<R: Wait, P: PayloadPort>(rt: &R, port: &mut P) -> Result<(
     requires ready { P.ready port.old }
     ensures ready { P.ready port.new }
     ensures follows { P.follows port.old port.new }
-    ensures stream { (start : List SoloEvent) (f : StreamSoFar) → f.known ≡ stop_by_change → IsStream start f (P.events port.old) → OnOk result (IsStream start (restarted f) (P.events port.new)) }
+    ensures stream { ChangedMoves restarted result (P.events port.old) (P.events port.new) }
     ensures bytes { bytes_out (P.events port.new) ≡ bytes_out (P.events port.old) }
     ensures memory { IfErr result (λ stop. stop ≡ Stop.NoMemory) }
 {

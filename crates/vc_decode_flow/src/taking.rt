@@ -1,22 +1,22 @@
 //! Takes what the slot of a flow has.
 
-ghost use Rattle.std.specs.Prelude.{◌≡◌, ◌≢◌, ◌<◌, ℕ, true, false, List, OnOk, IfOk, IfErr, IfSome, IsErrOf};
+ghost use Rattle.std.specs.Prelude.{◌≡◌, ◌≢◌, List, OnOk, IfOk, IfErr, IfSome};
 ghost use Rattle.vc_base.specs.declared.Side.TheVariants.{Cap};
-ghost use Rattle.vc_model.specs.Places.{has_error};
 ghost use Rattle.vc_model.specs.Solo.{SoloEvent};
 ghost use Rattle.vc_queue.specs.Holds.{held_payload};
-ghost use Rattle.vc_port.specs.Payloads.{bytes_out, faulty_finishes};
-ghost use Rattle.vc_encode_flow.specs.Flows.{HandedFirst};
-ghost use Rattle.vc_encode_flow.specs.Steps.{IsThere};
-ghost use Rattle.vc_stream_laws.specs.Streams.{StreamSoFar, IsStream, IsUnspoilt};
-ghost use Rattle.vc_decode_flow.specs.Steps.{KeepsCaptures, HasTaken, with_stop};
+ghost use Rattle.vc_port.specs.Payloads.{bytes_out};
+ghost use Rattle.vc_flow.specs.Buffers.{IsThere};
+ghost use Rattle.vc_stream_laws.specs.Streams.{StreamSoFar, IsStream};
+ghost use Rattle.vc_decode_flow.specs.Steps.{KeepsCaptures, with_stop};
+ghost use Rattle.vc_flow.specs.Calls.{KeepsHanded};
+ghost use Rattle.vc_decode_flow.specs.Promises.{StreamMoves, TellsFault, TakesCapture, TakesSource, NoSourceIsLeft, NoJobFailed};
 
-use crate::ends::Stop;
 use crate::opening::OUT_BUFFERS;
 use bitflags::Flags;
 use std::sync::Wait;
 use vc_base::flags::BufFlags;
 use vc_base::{Call, Errno, Reply, Side};
+use vc_flow::{Stop, is_failed};
 use vc_port::PayloadPort;
 use vc_wait::call_on;
 
@@ -28,14 +28,6 @@ pub(crate) struct Taken {
     pub(crate) used: u32,
     pub(crate) damaged: bool,
     pub(crate) last: bool,
-}
-
-/// Whether the flags have ERROR.
-fn is_failed(flags: u32) -> bool
-    ensures { result ≡ has_error flags }
-{
-    let error = BufFlags::ERROR.bits();
-    flags & error == error
 }
 
 /// Waits until the slot has an event, a CAPTURE buffer or an OUTPUT buffer to take.
@@ -78,10 +70,10 @@ fn find_stopped<P: PayloadPort>(port: &mut P) -> Result<(), Stop>
     requires ready { P.ready port.old }
     ensures ready { P.ready port.new }
     ensures follows { P.follows port.old port.new }
-    ensures stream { (start : List SoloEvent) (f : StreamSoFar) → IsStream start f (P.events port.old) → OnOk result (IsStream start (with_stop f) (P.events port.new)) }
+    ensures stream { StreamMoves with_stop result (P.events port.old) (P.events port.new) }
     ensures payloads { OnOk result (KeepsCaptures (P.hold port.old) (P.hold port.new)) }
     ensures bytes { OnOk result (bytes_out (P.events port.new) ≡ bytes_out (P.events port.old)) }
-    ensures hands { (start : List SoloEvent) (bytes : List ℕ) → HandedFirst start bytes (P.events port.old) → HandedFirst start bytes (P.events port.new) }
+    ensures hands { KeepsHanded (P.events port.old) (P.events port.new) }
     ensures memory { IfErr result (λ stop. stop ≡ Stop.NoMemory) }
 {
     let call = Call::DqBuf {
@@ -100,8 +92,8 @@ pub(crate) fn take_capture<P: PayloadPort>(port: &mut P) -> Result<Option<Taken>
     ensures ready { P.ready port.new }
     ensures follows { P.follows port.old port.new }
     ensures there { IfOk result (λ taken. IfSome taken (λ t. IsThere (held_payload (P.hold port.new) Cap t.index) t.used)) }
-    ensures taken { (start : List SoloEvent) (f : StreamSoFar) → IsStream start f (P.events port.old) → IfOk result (λ taken. HasTaken start f taken (P.hold port.new) (P.events port.old) (P.events port.new)) }
-    ensures hands { (start : List SoloEvent) (bytes : List ℕ) → HandedFirst start bytes (P.events port.old) → HandedFirst start bytes (P.events port.new) }
+    ensures taken { TakesCapture result (P.hold port.new) (P.events port.old) (P.events port.new) }
+    ensures hands { KeepsHanded (P.events port.old) (P.events port.new) }
     ensures memory { IfErr result (λ stop. stop ≡ Stop.NoMemory) }
 {
     let call = Call::DqBuf {
@@ -138,9 +130,9 @@ fn take_source<P: PayloadPort>(port: &mut P) -> Result<bool, Stop>
     requires ready { P.ready port.old }
     ensures ready { P.ready port.new }
     ensures follows { P.follows port.old port.new }
-    ensures goes_on { (start : List SoloEvent) (f : StreamSoFar) → IsStream start f (P.events port.old) → IfOk result (λ more. more ≡ true → IsStream start f (P.events port.new)) }
-    ensures none { (start : List SoloEvent) (f : StreamSoFar) → IsStream start f (P.events port.old) → IfOk result (λ more. more ≡ false → IsUnspoilt start f (P.events port.new)) }
-    ensures engine { (start : List SoloEvent) (f : StreamSoFar) → IsStream start f (P.events port.old) → IsErrOf result Stop.EngineFault → faulty_finishes start < faulty_finishes (P.events port.new) }
+    ensures goes_on { TakesSource result (P.events port.old) (P.events port.new) }
+    ensures none { NoSourceIsLeft result (P.events port.old) (P.events port.new) }
+    ensures engine { TellsFault result (P.events port.old) (P.events port.new) }
     ensures payloads { OnOk result (KeepsCaptures (P.hold port.old) (P.hold port.new)) }
     ensures bytes { bytes_out (P.events port.new) ≡ bytes_out (P.events port.old) }
     ensures stops { IfErr result (λ stop. (stop ≢ Stop.ReadFault) × (stop ≢ Stop.WriteFault) × (stop ≢ Stop.TooLong)) }
@@ -169,8 +161,8 @@ pub(crate) fn take_sources<P: PayloadPort>(port: &mut P) -> Result<(), Stop>
     requires ready { P.ready port.old }
     ensures ready { P.ready port.new }
     ensures follows { P.follows port.old port.new }
-    ensures unspoilt { (start : List SoloEvent) (f : StreamSoFar) → IsStream start f (P.events port.old) → OnOk result (IsUnspoilt start f (P.events port.new)) }
-    ensures engine { (start : List SoloEvent) (f : StreamSoFar) → IsStream start f (P.events port.old) → IsErrOf result Stop.EngineFault → faulty_finishes start < faulty_finishes (P.events port.new) }
+    ensures unspoilt { NoJobFailed result (P.events port.old) (P.events port.new) }
+    ensures engine { TellsFault result (P.events port.old) (P.events port.new) }
     ensures payloads { OnOk result (KeepsCaptures (P.hold port.old) (P.hold port.new)) }
     ensures bytes { bytes_out (P.events port.new) ≡ bytes_out (P.events port.old) }
     ensures stops { IfErr result (λ stop. (stop ≢ Stop.ReadFault) × (stop ≢ Stop.WriteFault) × (stop ≢ Stop.TooLong)) }

@@ -8,7 +8,9 @@ use Rattle.vc_defs.specs.Outputs.{encode_output, encode_count, is_short_raw}
 use Rattle.vc_model.specs.Solo.{SoloEvent}
 use Rattle.vc_port.specs.Payloads.{bytes_out, good_finishes}
 use Rattle.vc_encode_flow.specs.Frames.{joined}
-use Rattle.vc_encode_flow.specs.Flows.{FlowSoFar, frames_for, HandedFirst}
+use Rattle.vc_encode_flow.specs.Flows.{FlowSoFar, frames_for}
+use Rattle.vc_flow.specs.Calls.{HandedFirst}
+use Rattle.vc_flow.specs.Inputs.{BeginsWith}
 use Rattle.vc_encode_flow.specs.Steps.{StopsEarly}
 
 -- the bytes are the output that is defined for the input, where the input is known
@@ -17,7 +19,7 @@ IsOutput format rates None bytes = ⊤
 IsOutput format rates (Some input) bytes =
     bytes ≡ encode_output format.fourcc format.width format.height rates input
 
--- they are a front of it
+-- they are a prefix of it
 abbrev pub IsFrontOfOutput : Format → RunRates → Option (List ℕ) → List ℕ → Type 0
 IsFrontOfOutput format rates None bytes = ⊤
 IsFrontOfOutput format rates (Some input) bytes =
@@ -44,18 +46,12 @@ pub record IsWritten (format : Format) (rates : RunRates) (short : Bool) (left l
   pub handed : bytes_out events ≡ bytes_out start ++ bytes
   pub finishes : HasFinishes format rates left start events
 
--- What was written is a front of the output, and of what was handed out.
+-- What was written is a prefix of the output, and of what was handed out.
 pub record IsFrontWritten (format : Format) (rates : RunRates) (left written written_now : Option (List ℕ)) (start events : List SoloEvent) : Type 0 where
   pub bytes : List ℕ
   pub wrote : Appends written written_now bytes
   pub output : IsFrontOfOutput format rates left bytes
   pub handed : HandedFirst start bytes events
-
--- 2^40 bytes of the input were read
-abbrev pub IsLong : Option (List ℕ) → Option (List ℕ) → Type 0
-IsLong None left_now = ⊤
-IsLong (Some input) None = ⊥
-IsLong (Some input) (Some rest) = 2 ^ 40 + length rest ≤ length input
 
 -- All whole pictures of the input were read and queued, and all their frames were handed out and written. What is left of the
 -- input is no whole picture.
@@ -72,12 +68,7 @@ pub record IsThrough (start : List SoloEvent) (f : FlowSoFar) (size : ℕ) (whol
   pub handed : bytes_out events ≡ bytes_out start ++ joined (frames_for f pictures)
   pub finishes : good_finishes start + length pictures ≤ good_finishes events
 
--- the input begins with these bytes, where it is known
-abbrev pub BeginsWith : Option (List ℕ) → List ℕ → Type 0
-BeginsWith None bytes = ⊤
-BeginsWith (Some input) bytes = (more : List ℕ) × (input ≡ bytes ++ more)
-
--- Some first pictures of the input were queued. What was written is a front of their frames, and of what was handed out.
+-- Some first pictures of the input were queued. What was written is a prefix of their frames, and of what was handed out.
 pub record IsCutShort (start : List SoloEvent) (f : FlowSoFar) (size : ℕ) (first written left : Option (List ℕ)) (events : List SoloEvent) : Type 0 where
   pub pictures : List (List ℕ)
   pub sizes : All (λ (p : List ℕ). length p ≡ size) pictures

@@ -14,6 +14,7 @@ use Rattle.vc_model.specs.Context.{Context, Running, run}
 use Rattle.vc_model.specs.Places.{has_error}
 use Rattle.vc_model.specs.Solo.{SoloEvent}
 use Rattle.vc_port.specs.Payloads.{slot_after, bytes_out, good_finishes, faulty_finishes}
+use Rattle.vc_flow.specs.Faults.{GoesOn}
 use Rattle.vc_encode_flow.specs.Frames.{frames_from, state_from, joined}
 
 -- The format and the rates, the pictures that were queued, and the frames that were handed out, each in order.
@@ -96,6 +97,7 @@ pub record IsFlow (start : List SoloEvent) (f : FlowSoFar) (events : List SoloEv
   pub under_way : IsUnderWay f context (good_finishes start) (good_finishes events) (faulty_finishes start) (faulty_finishes events)
   pub handed : bytes_out events ≡ bytes_out start ++ joined f.taken
   pub later : faulty_finishes start ≤ faulty_finishes events
+  pub goes_on : GoesOn start events
 
 -- the flow of a slot that was just opened
 abbrev pub flow_at_open : FlowSoFar
@@ -124,7 +126,3 @@ rates_of gop iqp pqp = record { gop = gop; iqp = iqp; pqp = pqp }
 -- the flow over a slot whose format and rates were set
 abbrev pub flow_of : Format → RunRates → FlowSoFar
 flow_of format rates = record { format = format; rates = rates; queued = []; taken = [] }
-
--- since the start these bytes were handed out first
-abbrev pub HandedFirst : List SoloEvent → List ℕ → List SoloEvent → Type 0
-HandedFirst start bytes events = (more : List ℕ) × (bytes_out events ≡ bytes_out start ++ (bytes ++ more))

@@ -2,15 +2,17 @@
 use Rattle.std.specs.Prelude.{ℕ, ◌≡◌, ◌≤◌, take, length, Option, Some, None, List, [], ◌∷◌, ◌++◌}
 use Rattle.std.specs.Io.KnownBytes.{Appends}
 use Rattle.vc_model.specs.Solo.{SoloEvent}
+use Rattle.vc_flow.specs.Buffers.{HasBytes}
 use Rattle.vc_encode_flow.specs.Frames.{joined}
-use Rattle.vc_encode_flow.specs.Flows.{FlowSoFar, frames_for, IsFlow, HandedFirst}
+use Rattle.vc_encode_flow.specs.Flows.{FlowSoFar, frames_for, IsFlow}
+use Rattle.vc_flow.specs.Calls.{HandedFirst}
 
 -- all frames that were handed out were written
 pub record IsAt (start : List SoloEvent) (f : FlowSoFar) (first written : Option (List ℕ)) (events : List SoloEvent) : Type 0 where
   pub flow : IsFlow start f events
   pub wrote : Appends first written (joined f.taken)
 
--- What was written is a front of the bytes handed out, and of the frames of the pictures that were queued.
+-- What was written is a prefix of the bytes handed out, and of the frames of the pictures that were queued.
 pub record StopsEarly (start : List SoloEvent) (f : FlowSoFar) (first written : Option (List ℕ)) (events : List SoloEvent) : Type 0 where
   pub bytes : List ℕ
   pub wrote : Appends first written bytes
@@ -27,17 +29,7 @@ pub record HasTaken (start : List SoloEvent) (f : FlowSoFar) (count : ℕ) (firs
   pub number : length frames ≡ count
   pub at : IsAt start (with_frames f frames) first written events
 
--- the payload is there, and has so many bytes at least
-abbrev pub IsThere : Option (List ℕ) → ℕ → Type 0
-IsThere None used = ⊥
-IsThere (Some payload) used = used ≤ length payload
-
--- the payload is there, and these are its first bytes
-abbrev pub HasBytes : Option (List ℕ) → ℕ → List ℕ → Type 0
-HasBytes None used bytes = ⊥
-HasBytes (Some payload) used bytes = take used payload ≡ bytes
-
--- a frame more was handed out, and is the front of the payload
+-- a frame more was handed out, and is what the payload begins with
 pub record IsTaken (start : List SoloEvent) (f : FlowSoFar) (events : List SoloEvent) (payload : Option (List ℕ)) (used : ℕ) : Type 0 where
   pub frame : List ℕ
   pub flow : IsFlow start (record f { taken = f.taken ++ frame ∷ [] }) events

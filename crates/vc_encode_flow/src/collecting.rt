@@ -1,24 +1,19 @@
 //! Takes the frames of a flow, and writes them.
 
-ghost use Rattle.std.specs.Prelude.{◌≡◌, ◌≢◌, ◌<◌, ◌≤◌, ℕ, List, Option, OnOk, OnErr, IfOk, IfErr, IsErrOf};
-ghost use Rattle.std.specs.Io.KnownBytes.{Appends};
+ghost use Rattle.std.specs.Prelude.{◌≡◌, ◌⊎◌, ◌≢◌, ◌≤◌, IfOk, IfErr, IsErrOf};
 ghost use Rattle.vc_base.specs.declared.Side.TheVariants.{Cap};
 ghost use Rattle.vc_base.specs.Counts.{Rose};
-ghost use Rattle.vc_io.specs.Written.{AppendsFront};
-ghost use Rattle.vc_model.specs.Places.{has_error};
-ghost use Rattle.vc_model.specs.Solo.{SoloEvent};
 ghost use Rattle.vc_queue.specs.Holds.{held_payload};
-ghost use Rattle.vc_port.specs.Payloads.{faulty_finishes};
-ghost use Rattle.vc_encode_flow.specs.Flows.{FlowSoFar, IsFlow, HandedFirst};
-ghost use Rattle.vc_encode_flow.specs.Steps.{IsAt, StopsEarly, HasTaken, IsThere, HasBytes, IsTaken};
+ghost use Rattle.vc_flow.specs.Buffers.{IsThere};
+ghost use Rattle.vc_flow.specs.Calls.{KeepsHanded};
+ghost use Rattle.vc_flow.specs.Faults.{GoesOn, ShowsFault};
+ghost use Rattle.vc_encode_flow.specs.Promises.{TellsFault, TakesFrame, WritesFrames, LeavesPrefix, WritingTellsFault};
 
-use crate::ends::Stop;
-use crate::opening::queue_capture;
-use bitflags::Flags;
+use crate::opening::{BUFFERS, queue_capture};
 use std::sync::Wait;
-use vc_base::flags::BufFlags;
 use vc_base::{Call, Reply, Side};
-use vc_io::{Sink, write_whole};
+use vc_flow::{Stop, is_failed, write_taken};
+use vc_io::Sink;
 use vc_port::PayloadPort;
 use vc_wait::wait_on;
 
@@ -29,23 +24,42 @@ pub(crate) struct Frame {
     pub used: u32,
 }
 
-/// Whether the flags have ERROR.
-fn is_failed(flags: u32) -> bool
-    ensures { result ≡ has_error flags }
+/// Takes OUTPUT buffers until one with ERROR comes back, which shows that an engine failed.
+fn find_fault<R: Wait, P: PayloadPort>(rt: &R, port: &mut P) -> Stop
+    requires ready { P.ready port.old }
+    ensures ready { P.ready port.new }
+    ensures follows { P.follows port.old port.new }
+    ensures shows { result ≡ Stop.EngineFault → ShowsFault (P.events port.old) (P.events port.new) }
+    ensures goes_on { GoesOn (P.events port.old) (P.events port.new) }
+    ensures hands { KeepsHanded (P.events port.old) (P.events port.new) }
+    ensures stops { (result ≡ Stop.EngineFault) ⊎ (result ≡ Stop.NoMemory) }
 {
-    let error = BufFlags::ERROR.bits();
-    flags & error == error
+    let call = Call::DqBuf {
+        side: Side::Out,
+        block: true,
+    };
+    for _source in 0..BUFFERS {
+        match wait_on(rt, port, &call) {
+            Reply::Taken { flags, .. } => {
+                if is_failed(flags) {
+                    return Stop::EngineFault;
+                }
+            }
+            _ => return Stop::NoMemory,
+        }
+    }
+    Stop::NoMemory
 }
 
-/// Waits for a frame and takes it.
+/// Waits for a frame and takes it. Where it has ERROR, the OUTPUT buffer of its picture is taken too, which shows the fault.
 pub(crate) fn take_frame<R: Wait, P: PayloadPort>(rt: &R, port: &mut P) -> Result<Frame, Stop>
     requires ready { P.ready port.old }
     ensures ready { P.ready port.new }
     ensures follows { P.follows port.old port.new }
     ensures there { IfOk result (λ frame. IsThere (held_payload (P.hold port.new) Cap frame.index) frame.used) }
-    ensures flow { (start : List SoloEvent) (f : FlowSoFar) → IsFlow start f (P.events port.old) → IfOk result (λ frame. IsTaken start f (P.events port.new) (held_payload (P.hold port.new) Cap frame.index) frame.used) }
-    ensures engine { (start : List SoloEvent) (f : FlowSoFar) → IsFlow start f (P.events port.old) → IsErrOf result Stop.EngineFault → faulty_finishes start < faulty_finishes (P.events port.new) }
-    ensures hands { (start : List SoloEvent) (bytes : List ℕ) → HandedFirst start bytes (P.events port.old) → HandedFirst start bytes (P.events port.new) }
+    ensures flow { TakesFrame result (P.hold port.new) (P.events port.old) (P.events port.new) }
+    ensures engine { TellsFault result (P.events port.old) (P.events port.new) }
+    ensures hands { KeepsHanded (P.events port.old) (P.events port.new) }
     ensures stops { IfErr result (λ stop. (stop ≢ Stop.ReadFault) × (stop ≢ Stop.WriteFault) × (stop ≢ Stop.TooLong)) }
 {
     let call = Call::DqBuf {
@@ -60,30 +74,12 @@ pub(crate) fn take_frame<R: Wait, P: PayloadPort>(rt: &R, port: &mut P) -> Resul
             ..
         } => {
             if is_failed(flags) {
-                Err(Stop::EngineFault)
+                Err(find_fault(rt, port))
             } else {
                 Ok(Frame { index, used })
             }
         }
         _ => Err(Stop::NoMemory),
-    }
-}
-
-/// Writes a frame that was taken.
-fn write_frame<P: PayloadPort, K: Sink>(port: &P, sink: &mut K, frame: Frame) -> Result<(), Stop>
-    requires there { IsThere (held_payload (P.hold port.now) Cap frame.index) frame.used }
-    ensures whole { (bytes : List ℕ) → HasBytes (held_payload (P.hold port.now) Cap frame.index) frame.used bytes → OnOk result (Appends (K.written sink.old) (K.written sink.new) bytes) }
-    ensures front { (bytes : List ℕ) → HasBytes (held_payload (P.hold port.now) Cap frame.index) frame.used bytes → OnErr result (AppendsFront (K.written sink.old) (K.written sink.new) bytes) }
-    ensures later { K.faults sink.old ≤ K.faults sink.new }
-    ensures write { IsErrOf result Stop.WriteFault → Rose (K.faults sink.old) (K.faults sink.new) }
-    ensures stops { IfErr result (λ stop. stop ≡ Stop.WriteFault) }
-{
-    let Some(payload) = port.payload(Side::Cap, frame.index) else {
-        unreachable!();
-    };
-    match write_whole(sink, &payload[..frame.used as usize]) {
-        Ok(()) => Ok(()),
-        Err(_) => Err(Stop::WriteFault),
     }
 }
 
@@ -96,9 +92,9 @@ pub(crate) fn collect<R: Wait, P: PayloadPort, K: Sink>(
     requires ready { P.ready port.old }
     ensures ready { P.ready port.new }
     ensures follows { P.follows port.old port.new }
-    ensures taken { (start : List SoloEvent) (f : FlowSoFar) (first : Option (List ℕ)) → IsAt start f first (K.written sink.old) (P.events port.old) → OnOk result (HasTaken start f 1 first (K.written sink.new) (P.events port.new)) }
-    ensures stopped { (start : List SoloEvent) (f : FlowSoFar) (first : Option (List ℕ)) → IsAt start f first (K.written sink.old) (P.events port.old) → OnErr result (StopsEarly start f first (K.written sink.new) (P.events port.new)) }
-    ensures engine { (start : List SoloEvent) (f : FlowSoFar) → IsFlow start f (P.events port.old) → IsErrOf result Stop.EngineFault → faulty_finishes start < faulty_finishes (P.events port.new) }
+    ensures taken { WritesFrames 1 result (K.written sink.old) (K.written sink.new) (P.events port.old) (P.events port.new) }
+    ensures stopped { LeavesPrefix result (K.written sink.old) (K.written sink.new) (P.events port.old) (P.events port.new) }
+    ensures engine { TellsFault result (P.events port.old) (P.events port.new) }
     ensures later { K.faults sink.old ≤ K.faults sink.new }
     ensures write { IsErrOf result Stop.WriteFault → Rose (K.faults sink.old) (K.faults sink.new) }
     ensures stops { IfErr result (λ stop. (stop ≢ Stop.ReadFault) × (stop ≢ Stop.TooLong)) }
@@ -107,7 +103,7 @@ pub(crate) fn collect<R: Wait, P: PayloadPort, K: Sink>(
         Ok(frame) => frame,
         Err(stop) => return Err(stop),
     };
-    write_frame(port, sink, frame)?;
+    write_taken(port, sink, frame.index, frame.used)?;
     queue_capture(port, frame.index)
 }
 
@@ -121,9 +117,9 @@ pub(crate) fn collect_all<R: Wait, P: PayloadPort, K: Sink>(
     requires ready { P.ready port.old }
     ensures ready { P.ready port.new }
     ensures follows { P.follows port.old port.new }
-    ensures taken { (start : List SoloEvent) (f : FlowSoFar) (first : Option (List ℕ)) → IsAt start f first (K.written sink.old) (P.events port.old) → OnOk result (HasTaken start f count first (K.written sink.new) (P.events port.new)) }
-    ensures stopped { (start : List SoloEvent) (f : FlowSoFar) (first : Option (List ℕ)) → IsAt start f first (K.written sink.old) (P.events port.old) → OnErr result (StopsEarly start f first (K.written sink.new) (P.events port.new)) }
-    ensures engine { (start : List SoloEvent) (f : FlowSoFar) (first : Option (List ℕ)) → IsAt start f first (K.written sink.old) (P.events port.old) → IsErrOf result Stop.EngineFault → faulty_finishes start < faulty_finishes (P.events port.new) }
+    ensures taken { WritesFrames count result (K.written sink.old) (K.written sink.new) (P.events port.old) (P.events port.new) }
+    ensures stopped { LeavesPrefix result (K.written sink.old) (K.written sink.new) (P.events port.old) (P.events port.new) }
+    ensures engine { WritingTellsFault result (K.written sink.old) (P.events port.old) (P.events port.new) }
     ensures later { K.faults sink.old ≤ K.faults sink.new }
     ensures write { IsErrOf result Stop.WriteFault → Rose (K.faults sink.old) (K.faults sink.new) }
     ensures stops { IfErr result (λ stop. (stop ≢ Stop.ReadFault) × (stop ≢ Stop.TooLong)) }

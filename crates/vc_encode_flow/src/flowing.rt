@@ -1,30 +1,24 @@
 //! The flow: raw pictures in, frames out.
 
-ghost use Rattle.std.specs.Prelude.{◌≡◌, ◌≢◌, ◌<◌, ◌≤◌, ◌+◌, ◌^◌, ℕ, true, false, None, List, [], Option, min, length, Ok, Err, OnOk, OnErr, IfOk, IfErr, IsErrOf};
-ghost use Rattle.std.specs.List.{All};
-ghost use Rattle.std.specs.Io.KnownBytes.{Appends, Consumes, IsAtEnd};
+ghost use Rattle.std.specs.Prelude.{◌≡◌, ◌≢◌, ◌<◌, ◌≤◌, ◌^◌, true, false, None, length, Ok, Err, IfErr, IsErrOf};
 ghost use Rattle.vc_base.specs.Counts.{Rose};
 ghost use Rattle.vc_defs.specs.Laws.{AreRates};
-ghost use Rattle.vc_model.specs.Solo.{SoloEvent};
 ghost use Rattle.vc_port.specs.Payloads.{slot_after, faulty_finishes};
-ghost use Rattle.vc_encode_flow.specs.Flows.{FlowSoFar, HasBegun, flow_of, IsKept, HandedFirst, rates_of};
-ghost use Rattle.vc_encode_flow.specs.Steps.{IsAt, StopsEarly, HasTaken};
-ghost use Rattle.vc_encode_flow.specs.Endings.{IsThrough, IsCutShort, IsWritten, IsFrontWritten, IsLong};
+ghost use Rattle.vc_encode_flow.specs.Flows.{IsKept, rates_of};
+ghost use Rattle.vc_flow.specs.Faults.{HasFailed, ShowsFault};
+ghost use Rattle.vc_flow.specs.Inputs.{IsLong};
+ghost use Rattle.vc_encode_flow.specs.Promises.{WritesFrames, LeavesPrefix, WritingTellsFault, ComesThrough, BreaksOff, BreakingOffTellsFault, RunsThrough, RunIsCutShort, Encodes, EncodesPrefix};
 
-use crate::closing::close_slot;
 use crate::collecting::{collect, collect_all};
-use crate::ends::{FlowEnd, Stop};
 use crate::feeding::{feed, read_picture, take_source};
 use crate::opening::{BUFFERS, open_encoder};
 use std::alloc::Global;
 use std::sync::Wait;
 use vc_base::Format;
 use vc_core::Rates;
+use vc_flow::{FlowEnd, MOST_INPUT, Stop, close_slot};
 use vc_io::{Sink, Source};
 use vc_port::PayloadPort;
-
-/// The most bytes of an input.
-const MAX_INPUT: u64 = 1 << 40;
 
 /// An OUTPUT buffer for the picture with this number: a new one for each of the first pictures, and then one that
 /// comes back once another frame was collected.
@@ -37,10 +31,10 @@ fn next_source<R: Wait, P: PayloadPort, K: Sink>(
     requires ready { P.ready port.old }
     ensures ready { P.ready port.new }
     ensures follows { P.follows port.old port.new }
-    ensures first { number < 4 → (start : List SoloEvent) (f : FlowSoFar) (first : Option (List ℕ)) → IsAt start f first (K.written sink.old) (P.events port.old) → OnOk result (HasTaken start f 0 first (K.written sink.new) (P.events port.new)) }
-    ensures later_on { 4 ≤ number → (start : List SoloEvent) (f : FlowSoFar) (first : Option (List ℕ)) → IsAt start f first (K.written sink.old) (P.events port.old) → OnOk result (HasTaken start f 1 first (K.written sink.new) (P.events port.new)) }
-    ensures stopped { (start : List SoloEvent) (f : FlowSoFar) (first : Option (List ℕ)) → IsAt start f first (K.written sink.old) (P.events port.old) → OnErr result (StopsEarly start f first (K.written sink.new) (P.events port.new)) }
-    ensures engine { (start : List SoloEvent) (f : FlowSoFar) (first : Option (List ℕ)) → IsAt start f first (K.written sink.old) (P.events port.old) → IsErrOf result Stop.EngineFault → faulty_finishes start < faulty_finishes (P.events port.new) }
+    ensures first { number < 4 → WritesFrames 0 result (K.written sink.old) (K.written sink.new) (P.events port.old) (P.events port.new) }
+    ensures later_on { 4 ≤ number → WritesFrames 1 result (K.written sink.old) (K.written sink.new) (P.events port.old) (P.events port.new) }
+    ensures stopped { LeavesPrefix result (K.written sink.old) (K.written sink.new) (P.events port.old) (P.events port.new) }
+    ensures engine { WritingTellsFault result (K.written sink.old) (P.events port.old) (P.events port.new) }
     ensures later { K.faults sink.old ≤ K.faults sink.new }
     ensures write { IsErrOf result Stop.WriteFault → Rose (K.faults sink.old) (K.faults sink.new) }
     ensures stops { IfErr result (λ stop. (stop ≢ Stop.ReadFault) × (stop ≢ Stop.TooLong)) }
@@ -67,16 +61,16 @@ fn encode_pictures<R: Wait, P: PayloadPort, S: Source, K: Sink>(
     requires short { length picture.old < 2 ^ 32 }
     ensures ready { P.ready port.new }
     ensures follows { P.follows port.old port.new }
-    ensures through { (start : List SoloEvent) (f : FlowSoFar) (first : Option (List ℕ)) → HasBegun f → IsAt start f first (K.written sink.old) (P.events port.old) → IfOk result (λ whole. IsThrough start f (length picture.old) whole first (K.written sink.new) (S.left source.old) (S.left source.new) (P.events port.new)) }
-    ensures stopped { (start : List SoloEvent) (f : FlowSoFar) (first : Option (List ℕ)) → HasBegun f → IsAt start f first (K.written sink.old) (P.events port.old) → OnErr result (IsCutShort start f (length picture.old) first (K.written sink.new) (S.left source.old) (P.events port.new)) }
+    ensures through { ComesThrough (length picture.old) result K.written sink.old sink.new S.left source.old source.new P.events port.old port.new }
+    ensures stopped { BreaksOff (length picture.old) result K.written sink.old sink.new (S.left source.old) P.events port.old port.new }
     ensures long { IsErrOf result Stop.TooLong → IsLong (S.left source.old) (S.left source.new) }
-    ensures engine { (start : List SoloEvent) (f : FlowSoFar) (first : Option (List ℕ)) → HasBegun f → IsAt start f first (K.written sink.old) (P.events port.old) → IsErrOf result Stop.EngineFault → faulty_finishes start < faulty_finishes (P.events port.new) }
+    ensures engine { BreakingOffTellsFault result (K.written sink.old) (P.events port.old) (P.events port.new) }
     ensures source_later { S.faults source.old ≤ S.faults source.new }
     ensures sink_later { K.faults sink.old ≤ K.faults sink.new }
     ensures read { IsErrOf result Stop.ReadFault → Rose (S.faults source.old) (S.faults source.new) }
     ensures write { IsErrOf result Stop.WriteFault → Rose (K.faults sink.old) (K.faults sink.new) }
 {
-    let most = MAX_INPUT / picture.len() as u64 + 1;
+    let most = MOST_INPUT / picture.len() as u64 + 1;
     for number in 0..most {
         let count = read_picture(source, picture)?;
         if count < picture.len() {
@@ -105,10 +99,10 @@ fn run_flow<R: Wait, P: PayloadPort, S: Source, K: Sink>(
     requires rates { AreRates (rates_of rates.now.gop rates.now.iqp rates.now.pqp) }
     ensures ready { P.ready port.new }
     ensures follows { P.follows port.old port.new }
-    ensures through { IfOk result (λ whole. IsThrough (P.events port.old) (flow_of format.now (rates_of rates.now.gop rates.now.iqp rates.now.pqp)) format.now.size whole (K.written sink.old) (K.written sink.new) (S.left source.old) (S.left source.new) (P.events port.new)) }
-    ensures stopped { OnErr result (IsCutShort (P.events port.old) (flow_of format.now (rates_of rates.now.gop rates.now.iqp rates.now.pqp)) format.now.size (K.written sink.old) (K.written sink.new) (S.left source.old) (P.events port.new)) }
+    ensures through { RunsThrough format.now rates.now.gop rates.now.iqp rates.now.pqp result K.written sink.old sink.new S.left source.old source.new P.events port.old port.new }
+    ensures stopped { RunIsCutShort format.now rates.now.gop rates.now.iqp rates.now.pqp result K.written sink.old sink.new (S.left source.old) P.events port.old port.new }
     ensures long { IsErrOf result Stop.TooLong → IsLong (S.left source.old) (S.left source.new) }
-    ensures engine { IsErrOf result Stop.EngineFault → faulty_finishes (P.events port.old) < faulty_finishes (P.events port.new) }
+    ensures engine { IsErrOf result Stop.EngineFault → HasFailed (P.events port.old) (P.events port.new) }
     ensures source_later { S.faults source.old ≤ S.faults source.new }
     ensures sink_later { K.faults sink.old ≤ K.faults sink.new }
     ensures read { IsErrOf result Stop.ReadFault → Rose (S.faults source.old) (S.faults source.new) }
@@ -134,11 +128,7 @@ fn end_of(ended: Result<bool, Stop>) -> FlowEnd
     match ended {
         Ok(true) => FlowEnd::Whole,
         Ok(false) => FlowEnd::ShortRaw,
-        Err(Stop::ReadFault) => FlowEnd::ReadFault,
-        Err(Stop::WriteFault) => FlowEnd::WriteFault,
-        Err(Stop::EngineFault) => FlowEnd::EngineFault,
-        Err(Stop::TooLong) => FlowEnd::TooLong,
-        Err(Stop::NoMemory) => FlowEnd::NoMemory,
+        Err(stop) => stop.end(),
     }
 }
 
@@ -146,7 +136,7 @@ fn end_of(ended: Result<bool, Stop>) -> FlowEnd
 /// frames (docs/FORMAT.md, "The sequential encoder").
 ///
 /// The slot is closed before and after. The format is one that the device sets as it is asked for, and a picture has
-/// `format.size` bytes. What is written is a front of the input's frames, and of what the slot handed out; it is all of
+/// `format.size` bytes. What is written is a prefix of the input's frames, and of what the slot handed out; it is all of
 /// both where the flow ends with `Whole`, and with `ShortRaw`, where the input ends inside a picture. The flow never ends
 /// with `Damaged`.
 ///
@@ -169,14 +159,15 @@ pub fn encode_on<R: Wait, P: PayloadPort, S: Source, K: Sink>(
     ensures ready { P.ready port.new }
     ensures follows { P.follows port.old port.new }
     ensures closed { slot_after (P.events port.new) ≡ None }
-    ensures whole { result ≡ FlowEnd.Whole → IsWritten format.now (rates_of rates.now.gop rates.now.iqp rates.now.pqp) false (S.left source.old) (S.left source.new) (K.written sink.old) (K.written sink.new) (P.events port.old) (P.events port.new) }
-    ensures short { result ≡ FlowEnd.ShortRaw → IsWritten format.now (rates_of rates.now.gop rates.now.iqp rates.now.pqp) true (S.left source.old) (S.left source.new) (K.written sink.old) (K.written sink.new) (P.events port.old) (P.events port.new) }
-    ensures front { IsFrontWritten format.now (rates_of rates.now.gop rates.now.iqp rates.now.pqp) (S.left source.old) (K.written sink.old) (K.written sink.new) (P.events port.old) (P.events port.new) }
+    ensures whole { result ≡ FlowEnd.Whole → Encodes format.now rates.now.gop rates.now.iqp rates.now.pqp false S.left source.old source.new K.written sink.old sink.new P.events port.old port.new }
+    ensures short { result ≡ FlowEnd.ShortRaw → Encodes format.now rates.now.gop rates.now.iqp rates.now.pqp true S.left source.old source.new K.written sink.old sink.new P.events port.old port.new }
+    ensures front { EncodesPrefix format.now rates.now.gop rates.now.iqp rates.now.pqp (S.left source.old) K.written sink.old sink.new P.events port.old port.new }
     ensures source_later { S.faults source.old ≤ S.faults source.new }
     ensures sink_later { K.faults sink.old ≤ K.faults sink.new }
     ensures read { result ≡ FlowEnd.ReadFault → Rose (S.faults source.old) (S.faults source.new) }
     ensures write { result ≡ FlowEnd.WriteFault → Rose (K.faults sink.old) (K.faults sink.new) }
     ensures engine { result ≡ FlowEnd.EngineFault → faulty_finishes (P.events port.old) < faulty_finishes (P.events port.new) }
+    ensures shown { result ≡ FlowEnd.EngineFault → ShowsFault (P.events port.old) (P.events port.new) }
     ensures long { result ≡ FlowEnd.TooLong → IsLong (S.left source.old) (S.left source.new) }
     ensures undamaged { result ≢ FlowEnd.Damaged }
 {

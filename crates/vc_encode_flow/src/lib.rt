@@ -4,16 +4,14 @@
 //! the slot hands out to a sink. `share_on` feeds it pictures of the generator, and counts and folds the frames' bytes.
 #![tactic(auto)]
 
-mod closing;
 mod collecting;
-mod ends;
 mod feeding;
 mod flowing;
 mod opening;
 mod sharing;
 mod tallying;
 
-pub use ends::FlowEnd;
 pub use flowing::encode_on;
 pub use sharing::share_on;
 pub use tallying::Tally;
+pub use vc_flow::FlowEnd;

@@ -1,32 +1,21 @@
 //! Opens a slot for a flow.
 
-ghost use Rattle.std.specs.Prelude.{◌≡◌, ◌≢◌, ◌<◌, ℕ, List, [], None, Some, OnOk, IsErrOf, IfErr};
-ghost use Rattle.vc_base.specs.declared.Kind.TheVariants.{Enc};
-ghost use Rattle.vc_defs.specs.Encoder.{RunRates};
+ghost use Rattle.std.specs.Prelude.{◌≡◌, None, OnOk, IfErr};
 ghost use Rattle.vc_defs.specs.Laws.{AreRates};
 ghost use Rattle.vc_defs.specs.Outputs.{default_rates};
-ghost use Rattle.vc_model.specs.Answer.{with_control};
-ghost use Rattle.vc_model.specs.Solo.{SoloEvent};
 ghost use Rattle.vc_port.specs.Payloads.{slot_after};
-ghost use Rattle.vc_encode_flow.specs.Flows.{FlowSoFar, flow_at_open, flow_of, with_format, with_rates, HasBegun, IsKept, IsFlow, HandedFirst, rates_of};
+ghost use Rattle.vc_encode_flow.specs.Flows.{flow_at_open, flow_of, with_format, with_rates, IsKept, IsFlow, rates_of};
+ghost use Rattle.vc_flow.specs.Calls.{KeepsHanded};
+ghost use Rattle.vc_encode_flow.specs.Promises.{FlowMoves, NewFlowMoves, SetsControl};
 
-use crate::ends::Stop;
-use vc_base::{Call, Format, Kind, Reply, Side, Stamp};
+use vc_base::limits::{GOP_CONTROL, IQP_CONTROL, PQP_CONTROL};
+use vc_base::{Call, Format, Kind, Side, Stamp};
 use vc_core::Rates;
+use vc_flow::{Stop, call_done};
 use vc_port::PayloadPort;
-use vc_wait::call_on;
 
 /// The buffers of each queue.
 pub(crate) const BUFFERS: u32 = 4;
-
-/// The control of the frames from one I frame to the next.
-const GOP: u32 = 1;
-
-/// The control of the quantiser of I frames.
-const IQP: u32 = 2;
-
-/// The control of the quantiser of P frames.
-const PQP: u32 = 3;
 
 fn open_slot<P: PayloadPort>(port: &mut P) -> Result<(), Stop>
     requires ready { P.ready port.old }
@@ -34,13 +23,10 @@ fn open_slot<P: PayloadPort>(port: &mut P) -> Result<(), Stop>
     ensures ready { P.ready port.new }
     ensures follows { P.follows port.old port.new }
     ensures flow { OnOk result (IsFlow (P.events port.old) flow_at_open (P.events port.new)) }
-    ensures hands { (start : List SoloEvent) (bytes : List ℕ) → HandedFirst start bytes (P.events port.old) → HandedFirst start bytes (P.events port.new) }
+    ensures hands { KeepsHanded (P.events port.old) (P.events port.new) }
     ensures memory { IfErr result (λ stop. stop ≡ Stop.NoMemory) }
 {
-    match call_on(port, &Call::Open { kind: Kind::Enc }) {
-        Reply::Done => Ok(()),
-        _ => Err(Stop::NoMemory),
-    }
+    call_done(port, &Call::Open { kind: Kind::Enc })
 }
 
 fn set_format<P: PayloadPort>(port: &mut P, format: &Format) -> Result<(), Stop>
@@ -48,50 +34,33 @@ fn set_format<P: PayloadPort>(port: &mut P, format: &Format) -> Result<(), Stop>
     requires kept { IsKept format.now }
     ensures ready { P.ready port.new }
     ensures follows { P.follows port.old port.new }
-    ensures flow { (start : List SoloEvent) (f : FlowSoFar) → HasBegun f → IsFlow start f (P.events port.old) → OnOk result (IsFlow start (with_format f format.now) (P.events port.new)) }
-    ensures hands { (start : List SoloEvent) (bytes : List ℕ) → HandedFirst start bytes (P.events port.old) → HandedFirst start bytes (P.events port.new) }
+    ensures flow { NewFlowMoves (λ f. with_format f format.now) result (P.events port.old) (P.events port.new) }
+    ensures hands { KeepsHanded (P.events port.old) (P.events port.new) }
     ensures memory { IfErr result (λ stop. stop ≡ Stop.NoMemory) }
 {
-    let call = Call::SetFmt {
-        side: Side::Out,
-        want: *format,
-    };
-    match call_on(port, &call) {
-        Reply::Fmt { .. } => Ok(()),
-        _ => Err(Stop::NoMemory),
-    }
+    vc_flow::set_format(port, format)
 }
 
 fn set_control<P: PayloadPort>(port: &mut P, id: u32, value: u32) -> Result<(), Stop>
     requires ready { P.ready port.old }
     ensures ready { P.ready port.new }
     ensures follows { P.follows port.old port.new }
-    ensures flow { (start : List SoloEvent) (f : FlowSoFar) (rates : RunRates) → HasBegun f → with_control Enc f.rates id value ≡ Some rates → IsFlow start f (P.events port.old) → OnOk result (IsFlow start (with_rates f rates) (P.events port.new)) }
-    ensures hands { (start : List SoloEvent) (bytes : List ℕ) → HandedFirst start bytes (P.events port.old) → HandedFirst start bytes (P.events port.new) }
+    ensures flow { SetsControl id value result (P.events port.old) (P.events port.new) }
+    ensures hands { KeepsHanded (P.events port.old) (P.events port.new) }
     ensures memory { IfErr result (λ stop. stop ≡ Stop.NoMemory) }
 {
-    match call_on(port, &Call::SetCtrl { id, value }) {
-        Reply::Done => Ok(()),
-        _ => Err(Stop::NoMemory),
-    }
+    call_done(port, &Call::SetCtrl { id, value })
 }
 
 fn request_buffers<P: PayloadPort>(port: &mut P, side: Side) -> Result<(), Stop>
     requires ready { P.ready port.old }
     ensures ready { P.ready port.new }
     ensures follows { P.follows port.old port.new }
-    ensures flow { (start : List SoloEvent) (f : FlowSoFar) → HasBegun f → IsFlow start f (P.events port.old) → OnOk result (IsFlow start f (P.events port.new)) }
-    ensures hands { (start : List SoloEvent) (bytes : List ℕ) → HandedFirst start bytes (P.events port.old) → HandedFirst start bytes (P.events port.new) }
+    ensures flow { NewFlowMoves (λ f. f) result (P.events port.old) (P.events port.new) }
+    ensures hands { KeepsHanded (P.events port.old) (P.events port.new) }
     ensures memory { IfErr result (λ stop. stop ≡ Stop.NoMemory) }
 {
-    let call = Call::ReqBufs {
-        side,
-        count: BUFFERS,
-    };
-    match call_on(port, &call) {
-        Reply::Count { .. } => Ok(()),
-        _ => Err(Stop::NoMemory),
-    }
+    vc_flow::request_buffers(port, side, BUFFERS)
 }
 
 /// Queues a CAPTURE buffer.
@@ -99,8 +68,8 @@ pub(crate) fn queue_capture<P: PayloadPort>(port: &mut P, index: u32) -> Result<
     requires ready { P.ready port.old }
     ensures ready { P.ready port.new }
     ensures follows { P.follows port.old port.new }
-    ensures flow { (start : List SoloEvent) (f : FlowSoFar) → IsFlow start f (P.events port.old) → OnOk result (IsFlow start f (P.events port.new)) }
-    ensures hands { (start : List SoloEvent) (bytes : List ℕ) → HandedFirst start bytes (P.events port.old) → HandedFirst start bytes (P.events port.new) }
+    ensures flow { FlowMoves (λ f. f) result (P.events port.old) (P.events port.new) }
+    ensures hands { KeepsHanded (P.events port.old) (P.events port.new) }
     ensures memory { IfErr result (λ stop. stop ≡ Stop.NoMemory) }
 {
     let call = Call::QBuf {
@@ -109,24 +78,18 @@ pub(crate) fn queue_capture<P: PayloadPort>(port: &mut P, index: u32) -> Result<
         used: 0,
         stamp: Stamp(0),
     };
-    match call_on(port, &call) {
-        Reply::Done => Ok(()),
-        _ => Err(Stop::NoMemory),
-    }
+    call_done(port, &call)
 }
 
 fn stream<P: PayloadPort>(port: &mut P, side: Side) -> Result<(), Stop>
     requires ready { P.ready port.old }
     ensures ready { P.ready port.new }
     ensures follows { P.follows port.old port.new }
-    ensures flow { (start : List SoloEvent) (f : FlowSoFar) → IsFlow start f (P.events port.old) → OnOk result (IsFlow start f (P.events port.new)) }
-    ensures hands { (start : List SoloEvent) (bytes : List ℕ) → HandedFirst start bytes (P.events port.old) → HandedFirst start bytes (P.events port.new) }
+    ensures flow { FlowMoves (λ f. f) result (P.events port.old) (P.events port.new) }
+    ensures hands { KeepsHanded (P.events port.old) (P.events port.new) }
     ensures memory { IfErr result (λ stop. stop ≡ Stop.NoMemory) }
 {
-    match call_on(port, &Call::StreamOn { side }) {
-        Reply::Done => Ok(()),
-        _ => Err(Stop::NoMemory),
-    }
+    call_done(port, &Call::StreamOn { side })
 }
 
 /// Queues all CAPTURE buffers.
@@ -134,8 +97,8 @@ fn queue_captures<P: PayloadPort>(port: &mut P) -> Result<(), Stop>
     requires ready { P.ready port.old }
     ensures ready { P.ready port.new }
     ensures follows { P.follows port.old port.new }
-    ensures flow { (start : List SoloEvent) (f : FlowSoFar) → IsFlow start f (P.events port.old) → OnOk result (IsFlow start f (P.events port.new)) }
-    ensures hands { (start : List SoloEvent) (bytes : List ℕ) → HandedFirst start bytes (P.events port.old) → HandedFirst start bytes (P.events port.new) }
+    ensures flow { FlowMoves (λ f. f) result (P.events port.old) (P.events port.new) }
+    ensures hands { KeepsHanded (P.events port.old) (P.events port.new) }
     ensures memory { IfErr result (λ stop. stop ≡ Stop.NoMemory) }
 {
     for index in 0..BUFFERS {
@@ -149,13 +112,13 @@ fn set_rates<P: PayloadPort>(port: &mut P, rates: &Rates) -> Result<(), Stop>
     requires rates { AreRates (rates_of rates.now.gop rates.now.iqp rates.now.pqp) }
     ensures ready { P.ready port.new }
     ensures follows { P.follows port.old port.new }
-    ensures flow { (start : List SoloEvent) (f : FlowSoFar) → HasBegun f → IsFlow start f (P.events port.old) → OnOk result (IsFlow start (with_rates f (rates_of rates.now.gop rates.now.iqp rates.now.pqp)) (P.events port.new)) }
-    ensures hands { (start : List SoloEvent) (bytes : List ℕ) → HandedFirst start bytes (P.events port.old) → HandedFirst start bytes (P.events port.new) }
+    ensures flow { NewFlowMoves (λ f. with_rates f (rates_of rates.now.gop rates.now.iqp rates.now.pqp)) result (P.events port.old) (P.events port.new) }
+    ensures hands { KeepsHanded (P.events port.old) (P.events port.new) }
     ensures memory { IfErr result (λ stop. stop ≡ Stop.NoMemory) }
 {
-    set_control(port, GOP, rates.gop)?;
-    set_control(port, IQP, rates.iqp)?;
-    set_control(port, PQP, rates.pqp)
+    set_control(port, GOP_CONTROL, rates.gop)?;
+    set_control(port, IQP_CONTROL, rates.iqp)?;
+    set_control(port, PQP_CONTROL, rates.pqp)
 }
 
 /// Makes both queues stream, with all CAPTURE buffers queued.
@@ -163,8 +126,8 @@ fn start<P: PayloadPort>(port: &mut P) -> Result<(), Stop>
     requires ready { P.ready port.old }
     ensures ready { P.ready port.new }
     ensures follows { P.follows port.old port.new }
-    ensures flow { (start : List SoloEvent) (f : FlowSoFar) → HasBegun f → IsFlow start f (P.events port.old) → OnOk result (IsFlow start f (P.events port.new)) }
-    ensures hands { (start : List SoloEvent) (bytes : List ℕ) → HandedFirst start bytes (P.events port.old) → HandedFirst start bytes (P.events port.new) }
+    ensures flow { NewFlowMoves (λ f. f) result (P.events port.old) (P.events port.new) }
+    ensures hands { KeepsHanded (P.events port.old) (P.events port.new) }
     ensures memory { IfErr result (λ stop. stop ≡ Stop.NoMemory) }
 {
     request_buffers(port, Side::Out)?;
@@ -188,7 +151,7 @@ pub(crate) fn open_encoder<P: PayloadPort>(
     ensures ready { P.ready port.new }
     ensures follows { P.follows port.old port.new }
     ensures flow { OnOk result (IsFlow (P.events port.old) (flow_of format.now (rates_of rates.now.gop rates.now.iqp rates.now.pqp)) (P.events port.new)) }
-    ensures hands { (start : List SoloEvent) (bytes : List ℕ) → HandedFirst start bytes (P.events port.old) → HandedFirst start bytes (P.events port.new) }
+    ensures hands { KeepsHanded (P.events port.old) (P.events port.new) }
     ensures memory { IfErr result (λ stop. stop ≡ Stop.NoMemory) }
 {
     open_slot(port)?;

@@ -1,23 +1,21 @@
 //! The pictures of the generator through one encoder, whose frames are counted and folded.
 
-ghost use Rattle.std.specs.Prelude.{◌≡◌, ◌⊎◌, ◌<◌, ◌≤◌, ◌+◌, ◌*◌, ◌-◌, ◌^◌, ℕ, List, [], ◌++◌, None, length, IfOk, OnOk, IfErr, IsErrOf};
-ghost use Rattle.vc_base.specs.declared.Format.{Format as FormatType};
+ghost use Rattle.std.specs.Prelude.{◌≡◌, ◌⊎◌, ◌<◌, ◌≤◌, ◌+◌, ◌^◌, ◌++◌, None, length, IfOk, OnOk, IfErr, IsErrOf};
 ghost use Rattle.vc_defs.specs.Laws.{IsRawFormat};
 ghost use Rattle.vc_defs.specs.Outputs.{fold_of};
-ghost use Rattle.vc_model.specs.Solo.{SoloEvent};
 ghost use Rattle.vc_port.specs.Payloads.{slot_after, bytes_out, good_finishes, faulty_finishes};
+ghost use Rattle.vc_flow.specs.Faults.{HasFailed, ShowsFault};
 ghost use Rattle.vc_encode_flow.specs.Flows.{IsKept};
 ghost use Rattle.vc_encode_flow.specs.Shares.{generated_bytes, IsSharing};
-ghost use Rattle.vc_encode_flow.specs.Tallies.{tally_of};
+ghost use Rattle.vc_encode_flow.specs.Promises.{TalliesNext, TallyingTellsFault, SharesAll, SharingTellsFault};
 
-use crate::closing::close_slot;
-use crate::ends::{FlowEnd, Stop};
 use crate::feeding::{feed, take_source};
 use crate::opening::{BUFFERS, open_fresh_encoder};
 use crate::tallying::{Tally, tally_frame, tally_frames};
 use std::alloc::Global;
 use std::sync::Wait;
 use vc_base::Format;
+use vc_flow::{FlowEnd, Stop, close_slot};
 use vc_port::PayloadPort;
 use vc_raw::fill;
 
@@ -33,8 +31,8 @@ fn next_source<R: Wait, P: PayloadPort>(
     requires room { tally.old.bytes < 2 ^ 63 }
     ensures ready { P.ready port.new }
     ensures follows { P.follows port.old port.new }
-    ensures shares { (start : List SoloEvent) (format : FormatType) (number queued : ℕ) → IsSharing start format number queued (at - 4) tally.old (P.events port.old) → OnOk result (IsSharing start format number queued (at + 1 - 4) tally.new (P.events port.new)) }
-    ensures engine { (start : List SoloEvent) (format : FormatType) (number queued taken : ℕ) → IsSharing start format number queued taken tally.old (P.events port.old) → IsErrOf result Stop.EngineFault → faulty_finishes start < faulty_finishes (P.events port.new) }
+    ensures shares { TalliesNext at result tally.old tally.new (P.events port.old) (P.events port.new) }
+    ensures engine { TallyingTellsFault result tally.old (P.events port.old) (P.events port.new) }
     ensures bound { tally.new.bytes ≤ tally.old.bytes + 2 ^ 32 }
 {
     if at < BUFFERS {
@@ -62,8 +60,8 @@ fn share_pictures<R: Wait, P: PayloadPort>(
     requires number { number ≤ 1000063 }
     ensures ready { P.ready port.new }
     ensures follows { P.follows port.old port.new }
-    ensures through { (start : List SoloEvent) → IsSharing start format.now number 0 0 (tally_of []) (P.events port.old) → IfOk result (λ tally. IsSharing start format.now number pictures pictures tally (P.events port.new)) }
-    ensures engine { (start : List SoloEvent) → IsSharing start format.now number 0 0 (tally_of []) (P.events port.old) → IsErrOf result Stop.EngineFault → faulty_finishes start < faulty_finishes (P.events port.new) }
+    ensures through { SharesAll format.now number pictures result (P.events port.old) (P.events port.new) }
+    ensures engine { SharingTellsFault format.now number result (P.events port.old) (P.events port.new) }
 {
     let mut tally = Tally::none();
     for at in 0..pictures {
@@ -92,7 +90,7 @@ fn run_share<R: Wait, P: PayloadPort>(
     ensures ready { P.ready port.new }
     ensures follows { P.follows port.old port.new }
     ensures through { IfOk result (λ tally. IsSharing (P.events port.old) format.now number pictures pictures tally (P.events port.new)) }
-    ensures engine { IsErrOf result Stop.EngineFault → faulty_finishes (P.events port.old) < faulty_finishes (P.events port.new) }
+    ensures engine { IsErrOf result Stop.EngineFault → HasFailed (P.events port.old) (P.events port.new) }
 {
     let Ok(mut picture) = vec![in alloc; 0; format.size as usize] else {
         return Err(Stop::NoMemory);
@@ -101,13 +99,24 @@ fn run_share<R: Wait, P: PayloadPort>(
     share_pictures(rt, port, &mut picture, format, pictures, number)
 }
 
+/// How a share ends that was stopped: it reads and writes nothing, so only an engine or memory stops it.
+fn share_end(stop: Stop) -> FlowEnd
+    ensures engine { result ≡ FlowEnd.EngineFault → stop ≡ Stop.EngineFault }
+    ensures refusals { (result ≡ FlowEnd.EngineFault) ⊎ (result ≡ FlowEnd.NoMemory) }
+{
+    match stop {
+        Stop::EngineFault => FlowEnd::EngineFault,
+        _ => FlowEnd::NoMemory,
+    }
+}
+
 /// Encodes the first pictures of the generator for a number, one after another, with one encoder of the device, at the
 /// rates that an encoder begins with (docs/FORMAT.md, "The generator" and "The sequential encoder"). It tells how many
 /// bytes their frames have, and the fold of these bytes.
 ///
 /// The slot is closed before and after. The format is one that the device sets as it is asked for. There are 1 to 1,000
-/// pictures, and the number is at most 1,000,063. The only refusals are `EngineFault`, where a job was finished with a
-/// fault, and `NoMemory`.
+/// pictures, and the number is at most 1,000,063. The only refusals are `EngineFault`, where an OUTPUT buffer
+/// came back with ERROR, and `NoMemory`.
 ///
 /// Four buffers of each queue are used, and both queues stream before the first picture is made. A picture is queued
 /// before the next is made, and no reply is waited for before four pictures are queued or all are.
@@ -132,13 +141,13 @@ pub fn share_on<R: Wait, P: PayloadPort>(
     ensures handed { OnOk result (bytes_out (P.events port.new) ≡ bytes_out (P.events port.old) ++ generated_bytes format.now pictures number) }
     ensures finishes { OnOk result (good_finishes (P.events port.old) + pictures ≤ good_finishes (P.events port.new)) }
     ensures engine { IsErrOf result FlowEnd.EngineFault → faulty_finishes (P.events port.old) < faulty_finishes (P.events port.new) }
+    ensures shown { IsErrOf result FlowEnd.EngineFault → ShowsFault (P.events port.old) (P.events port.new) }
     ensures refusals { IfErr result (λ end. (end ≡ FlowEnd.EngineFault) ⊎ (end ≡ FlowEnd.NoMemory)) }
 {
     let shared = run_share(rt, alloc, port, format, pictures, number);
     close_slot(rt, port);
     match shared {
         Ok(tally) => Ok(tally),
-        Err(Stop::EngineFault) => Err(FlowEnd::EngineFault),
-        Err(_) => Err(FlowEnd::NoMemory),
+        Err(stop) => Err(share_end(stop)),
     }
 }

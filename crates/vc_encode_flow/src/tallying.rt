@@ -1,20 +1,17 @@
 //! Takes the frames of a flow, and counts and folds their bytes.
 
-ghost use Rattle.std.specs.Prelude.{◌≡◌, ◌<◌, ◌≤◌, ◌+◌, ◌*◌, ◌-◌, ◌^◌, ℕ, List, [], ◌++◌, length, OnOk, IsErrOf};
+ghost use Rattle.std.specs.Prelude.{◌≡◌, ◌<◌, ◌≤◌, ◌+◌, ◌*◌, ◌^◌, ℕ, List, [], ◌++◌, length};
 ghost use Rattle.vc_base.specs.declared.Side.TheVariants.{Cap};
-ghost use Rattle.vc_base.specs.declared.Format.{Format};
-ghost use Rattle.vc_model.specs.Solo.{SoloEvent};
 ghost use Rattle.vc_queue.specs.Holds.{held_payload};
-ghost use Rattle.vc_port.specs.Payloads.{faulty_finishes};
-ghost use Rattle.vc_encode_flow.specs.Steps.{IsThere, HasBytes};
-ghost use Rattle.vc_encode_flow.specs.Shares.{IsSharing};
+ghost use Rattle.vc_flow.specs.Buffers.{IsThere};
 ghost use Rattle.vc_encode_flow.specs.Tallies.{tally_of, folded};
+ghost use Rattle.vc_encode_flow.specs.Promises.{TalliesUsed, TalliesFrames, TallyingTellsFault};
 
 use crate::collecting::{Frame, take_frame};
-use crate::ends::Stop;
 use crate::opening::queue_capture;
 use std::sync::Wait;
 use vc_base::Side;
+use vc_flow::Stop;
 use vc_port::PayloadPort;
 
 /// How many bytes there are, and their fold: it starts at 0, and a byte takes it from f to
@@ -59,7 +56,7 @@ fn folded(fold: u32, bytes: &[u8]) -> u32
 fn add_frame<P: PayloadPort>(port: &P, tally: &mut Tally, frame: Frame)
     requires there { IsThere (held_payload (P.hold port.now) Cap frame.index) frame.used }
     requires room { tally.old.bytes < 2 ^ 63 }
-    ensures more { (before bytes : List ℕ) → HasBytes (held_payload (P.hold port.now) Cap frame.index) frame.used bytes → tally.old ≡ tally_of before → tally.new ≡ tally_of (before ++ bytes) }
+    ensures more { TalliesUsed (held_payload (P.hold port.now) Cap frame.index) frame.used tally.old tally.new }
     ensures bound { tally.new.bytes ≤ tally.old.bytes + 2 ^ 32 }
 {
     let Some(payload) = port.payload(Side::Cap, frame.index) else {
@@ -78,8 +75,8 @@ pub(crate) fn tally_frame<R: Wait, P: PayloadPort>(
     requires room { tally.old.bytes < 2 ^ 63 }
     ensures ready { P.ready port.new }
     ensures follows { P.follows port.old port.new }
-    ensures shares { (start : List SoloEvent) (format : Format) (number queued taken : ℕ) → IsSharing start format number queued taken tally.old (P.events port.old) → OnOk result (IsSharing start format number queued (taken + 1) tally.new (P.events port.new)) }
-    ensures engine { (start : List SoloEvent) (format : Format) (number queued taken : ℕ) → IsSharing start format number queued taken tally.old (P.events port.old) → IsErrOf result Stop.EngineFault → faulty_finishes start < faulty_finishes (P.events port.new) }
+    ensures shares { TalliesFrames 1 result tally.old tally.new (P.events port.old) (P.events port.new) }
+    ensures engine { TallyingTellsFault result tally.old (P.events port.old) (P.events port.new) }
     ensures bound { tally.new.bytes ≤ tally.old.bytes + 2 ^ 32 }
 {
     let frame = match take_frame(rt, port) {
@@ -101,8 +98,8 @@ pub(crate) fn tally_frames<R: Wait, P: PayloadPort>(
     requires room { tally.old.bytes + count * 2 ^ 32 < 2 ^ 63 }
     ensures ready { P.ready port.new }
     ensures follows { P.follows port.old port.new }
-    ensures shares { (start : List SoloEvent) (format : Format) (number queued taken : ℕ) → IsSharing start format number queued taken tally.old (P.events port.old) → OnOk result (IsSharing start format number queued (taken + count) tally.new (P.events port.new)) }
-    ensures engine { (start : List SoloEvent) (format : Format) (number queued taken : ℕ) → IsSharing start format number queued taken tally.old (P.events port.old) → IsErrOf result Stop.EngineFault → faulty_finishes start < faulty_finishes (P.events port.new) }
+    ensures shares { TalliesFrames count result tally.old tally.new (P.events port.old) (P.events port.new) }
+    ensures engine { TallyingTellsFault result tally.old (P.events port.old) (P.events port.new) }
 {
     for _frame in 0..count {
         match tally_frame(rt, port, tally) {

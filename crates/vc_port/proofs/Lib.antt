@@ -1,5 +1,5 @@
-pub mod Handing
-pub mod Holding
-pub mod Honesty
-pub mod Taking
-pub mod Waiting
+pub mod CallsAreHonest
+pub mod CallsHandOut
+pub mod HeldIsThere
+pub mod TakenIsHandedOut
+pub mod WaitingIsOneCall

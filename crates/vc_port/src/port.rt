@@ -60,7 +60,7 @@ pub trait PayloadPort: Port {
     fn payload(&self, side: Side, index: u32) -> Option<&[u8]>
         ensures { option_map (λ s. s.now) result ≡ held_payload (hold self.now) side index };
 
-    /// Writes bytes over the front of a held payload that is not shorter. It takes no memory.
+    /// Writes bytes over the first bytes of a held payload that is not shorter. It takes no memory.
     fn fill(&mut self, side: Side, index: u32, bytes: &[u8])
         requires ready { Self.ready self.old }
         requires held { HasRoom (held_payload (hold self.old) side index) bytes.now }

@@ -3,7 +3,7 @@ use Rattle.std.specs.Prelude.{List, [], ◌∷◌, ◌++◌}
 use Rattle.std.proofs.Common.{subst}
 use Rattle.vc_model.specs.Coder.{the_coder}
 use Rattle.vc_model.specs.Solo.{SoloEvent, Called, SoloReply, Answered, SoloEntry}
-use Rattle.vc_model.proofs.Isolating.{isolated}
+use Rattle.vc_model.proofs.SlotsAreIsolated.{isolated}
 use Rattle.vc_context.specs.Payloads.{FitsSlot}
 use Rattle.vc_port.specs.Ports.{AnsweredCall}
 use Rattle.vc_port.specs.Payloads.{slot_after, told_at, AreKept}

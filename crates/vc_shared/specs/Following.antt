@@ -3,7 +3,7 @@ use Rattle.std.specs.Prelude.{◌≡◌, refl}
 use Rattle.std.proofs.Common.{◌∙◌}
 use mathlib.Core.List.{IsPrefix}
 use Rattle.vc_model.specs.Seats.{Seat}
-use Rattle.vc_turn.proofs.Facts.{prefix_self, prefix_trans}
+use Rattle.vc_turn.proofs.ListsByPlace.{prefix_self, prefix_trans}
 use Rattle.vc_shared.specs.Handles.{HandleState}
 use Rattle.vc_shared.specs.Workers.{WorkerState}
 

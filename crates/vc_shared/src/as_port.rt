@@ -21,7 +21,7 @@ impl<'a, R: Wait + Sync> Port for Handle<'a, R> {
     ghost pauses = { λ p q. StaysHandle p q };
 
     fn call(&mut self, call: &Call) -> Reply {
-        self.make(call)
+        Handle::call(self, call)
     }
 
     fn pause(&mut self) {

@@ -21,12 +21,12 @@ impl<'a, R: Wait + Sync> Station for WorkerSeat<'a, R> {
 
     fn claim(&mut self) -> Claimed {
         self.known();
-        self.take_job()
+        WorkerSeat::claim(self)
     }
 
     fn finish(&mut self, finished: Finished) {
         self.known();
-        self.bring_back(finished);
+        WorkerSeat::finish(self, finished);
     }
 
     fn pause(&mut self) {

@@ -1,14 +1,14 @@
-//! A call, and a shut, in a turn of its own.
+//! A call in a turn of its own.
 ghost use Rattle.std.specs.Prelude.{◌≡◌, ◌≢◌};
 ghost use Rattle.vc_base.specs.declared.Reply.TheVariants.{Blocked};
 ghost use Rattle.vc_context.specs.Payloads.{handed_over};
 ghost use Rattle.vc_port.specs.Payloads.{IsCallOn};
 ghost use Rattle.vc_shared.specs.Following.{SeatGrows};
 ghost use Rattle.vc_shared.specs.Handles.{seat_of, handle_at, slot_events, IsSlotSeat};
-ghost use Rattle.vc_shared.specs.Calls.{found_for, AnswersCall, BlocksCall, ShutsDevice};
+ghost use Rattle.vc_shared.specs.Calls.{found_for, AnswersCall, BlocksCall};
 
 use crate::held::{Held, Sizes};
-use crate::notes::{HandedOver, note_call, note_shut};
+use crate::notes::{HandedOver, note_call};
 use crate::turns::enter;
 use std::marker::Brand;
 use std::sync::Wait;
@@ -28,8 +28,9 @@ fn found_memory(reply: &Reply) -> bool
     }
 }
 
-// The call with the bytes that it hands over named.
-fn make_with<B: HandedOver, R: Wait>(
+/// Makes a call on a slot in a turn of its own. Where it answers Blocked nothing is noted. `B` names the bytes that
+/// the call hands over.
+pub(crate) fn make_call<B: HandedOver, R: Wait>(
     rt: &R,
     turn: &Turn<Held>,
     seat: &mut TurnSeat<Held>,
@@ -58,26 +59,4 @@ fn make_with<B: HandedOver, R: Wait>(
         turn.put(seat, Held { core, sizes });
     }
     reply
-}
-
-/// Makes a call on a slot in a turn of its own. Where it answers Blocked nothing is noted.
-pub(crate) fn make_call<R: Wait>(
-    rt: &R,
-    turn: &Turn<Held>,
-    seat: &mut TurnSeat<Held>,
-    sizes: Sizes,
-    slot: u32,
-    request: &Call,
-    hold: &mut Hold,
-) -> Reply
-    requires own { seat.old.turn ≡ turn.now }
-    requires seat { IsSlotSeat seat.old sizes slot hold.old }
-    ensures lock { seat.new.turn ≡ seat.old.turn }
-    ensures knows { SeatGrows (seat_of seat.old) (seat_of seat.new) }
-    ensures seat { IsSlotSeat seat.new sizes slot hold.new }
-    ensures solo { IsCallOn (slot_events (handle_at seat.old sizes slot hold.old)) hold.old request.now result (slot_events (handle_at seat.new sizes slot hold.new)) hold.new }
-    ensures blocked { result ≡ Blocked → BlocksCall (handle_at seat.old sizes slot hold.old) (handle_at seat.new sizes slot hold.new) request.now }
-    ensures answered { result ≢ Blocked → AnswersCall (handle_at seat.old sizes slot hold.old) (handle_at seat.new sizes slot hold.new) request.now result }
-{
-    make_with::<Brand, R>(rt, turn, seat, sizes, slot, request, hold)
 }

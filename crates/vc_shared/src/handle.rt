@@ -129,8 +129,10 @@ impl<'a, R> Handle<'a, R> {
 impl<'a, R: Wait> Handle<'a, R> {
     ghost use Rattle.vc_shared.specs.Handles.{slot_events, IsHandle};
 
-    /// The call, of which `call` has the clauses.
-    pub(crate) fn make(&mut self, call: &Call) -> Reply
+    /// Makes a call on the slot, in a turn of its own. An answered call is one entry of the history. Where the answer is
+    /// Blocked nothing is noted, and neither the slot nor a payload changes; the handle may have seen more of the
+    /// history. It waits for its turn, and may wait for ever.
+    pub fn call(&mut self, call: &Call) -> Reply
         ensures follows { HandleFollows self.old self.new }
         ensures solo { IsCallOn (slot_events self.old) self.old.hold call.now result (slot_events self.new) self.new.hold }
         ensures blocked { result ≡ Blocked → BlocksCall self.old self.new call.now }
@@ -154,23 +156,6 @@ impl<'a, R: Wait> Handle<'a, R> {
         let rt = self.rt;
         let shared = self.shared;
         shared.bell.wait_past(rt, self.heard);
-    }
-}
-
-impl<'a, R: Wait + Sync> Handle<'a, R> {
-    ghost use Rattle.vc_shared.specs.Handles.{slot_events, IsHandle};
-
-    /// Makes a call on the slot, in a turn of its own. An answered call is one entry of the history. Where the answer is
-    /// Blocked nothing is noted, and neither the slot nor a payload changes; the handle may have seen more of the
-    /// history. It waits for its turn, and may wait for ever.
-    pub fn call(&mut self, call: &Call) -> Reply
-        ensures follows { HandleFollows self.old self.new }
-        ensures solo { IsCallOn (slot_events self.old) self.old.hold call.now result (slot_events self.new) self.new.hold }
-        ensures blocked { result ≡ Blocked → BlocksCall self.old self.new call.now }
-        ensures answered { result ≢ Blocked → AnswersCall self.old self.new call.now result }
-        ensures ready { IsHandle self.new }
-    {
-        self.make(call)
     }
 
     /// Marks the device as shut, which is one entry of the history. It waits for its turn, and may wait for ever.

@@ -85,7 +85,7 @@ impl HandleSeat {
         ensures answered { result ≢ Blocked → AnswersCall self.old self.new call.now result }
         ensures ready { IsHandle self.new }
     {
-        make_call(
+        make_call::<Brand, R>(
             rt,
             turn,
             &mut self.seat,

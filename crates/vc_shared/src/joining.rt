@@ -1,10 +1,9 @@
 //! Joining all seats into the one of slot 0.
-ghost use Rattle.std.specs.Prelude.{◌≡◌, ℕ, ◌<◌, ◌+◌, false, Some, slice_get, map, vec_len, length, List, ◌++◌};
+ghost use Rattle.std.specs.Prelude.{◌≡◌, ℕ, ◌<◌, ◌+◌, false, Some, slice_get, map, vec_len};
 ghost use Rattle.vc_shared.specs.Handles.{DeviceId, HandleState};
 ghost use Rattle.vc_shared.specs.Workers.{WorkerState};
-ghost use Rattle.vc_shared.specs.Closing.{AreHandlesOf, AreWorkersOf};
-ghost use Rattle.vc_shared.specs.Joining.{HasJoined};
-ghost use Rattle.vc_model.specs.Seats.{Seat};
+ghost use Rattle.vc_shared.specs.Closing.{AreHandlesOf};
+ghost use Rattle.vc_shared.specs.Joining.{HasJoined, JoinsWorkers};
 
 use crate::handle_seat::HandleSeat;
 use crate::held::Held;
@@ -34,7 +33,7 @@ pub(crate) fn join_workers(turn: &Turn<Held>, first: &mut TurnSeat<Held>, worker
     requires lock { (first.old.turn ≡ turn.now) × (first.old.number ≡ 0) × (first.old.serving ≡ false) }
     requires own { (k : ℕ) (w : WorkerState) → slice_get workers.items k ≡ Some w → w.device.lock ≡ turn.now }
     ensures lock { (first.new.turn ≡ turn.now) × (first.new.number ≡ 0) × (first.new.serving ≡ false) }
-    ensures joined { (device : DeviceId) (seats : List Seat) → HasJoined device first.old seats → length seats ≡ device.slots → AreWorkersOf device workers.items → HasJoined device first.new (seats ++ map (λ w. w.seat) workers.items) }
+    ensures joined { JoinsWorkers first.old workers.items first.new }
 {
     for worker in workers {
         turn.join(first, worker.into_turn_seat());

@@ -1,7 +1,8 @@
 //! Notes whose event is fixed by what a function is given.
-ghost use Rattle.std.specs.Prelude.{◌≡◌, ◌++◌, ◌∷◌, [], ℕ, List, length, true, false};
+ghost use Rattle.std.specs.Prelude.{◌≡◌, ℕ, List, true, false};
 ghost use Rattle.vc_base.specs.Device.{call, claim, finish, shut};
 ghost use Rattle.vc_turn.specs.History.{places};
+ghost use Rattle.vc_turn.specs.Place.{with_entry};
 
 use crate::held::Held;
 use std::marker::Brand;
@@ -30,7 +31,7 @@ pub(crate) fn note_call<B: HandedOver, E: Entry>(
     requires event { E.event ≡ call slot request.now B.bytes found }
     requires own { seat.old.turn ≡ turn.now }
     requires turn { (seat.old.serving ≡ true) × (seat.old.noted ≡ false) }
-    ensures noted { seat.new ≡ record seat.old { noted = true; seen = seat.old.seen ++ record { seat = seat.old.number; event = call slot request.now B.bytes found } ∷ []; mine = seat.old.mine ++ length seat.old.seen ∷ [] } }
+    ensures noted { seat.new ≡ with_entry seat.old (call slot request.now B.bytes found) }
     ensures own { places seat.new.number seat.new.seen ≡ seat.new.mine }
 {
     turn.note::<E>(seat);
@@ -41,7 +42,7 @@ pub(crate) fn note_shut<E: Entry>(turn: &Turn<Held>, seat: &mut TurnSeat<Held>)
     requires event { E.event ≡ shut }
     requires own { seat.old.turn ≡ turn.now }
     requires turn { (seat.old.serving ≡ true) × (seat.old.noted ≡ false) }
-    ensures noted { seat.new ≡ record seat.old { noted = true; seen = seat.old.seen ++ record { seat = seat.old.number; event = shut } ∷ []; mine = seat.old.mine ++ length seat.old.seen ∷ [] } }
+    ensures noted { seat.new ≡ with_entry seat.old shut }
     ensures own { places seat.new.number seat.new.seen ≡ seat.new.mine }
 {
     turn.note::<E>(seat);
@@ -52,7 +53,7 @@ pub(crate) fn note_claim<E: Entry>(turn: &Turn<Held>, seat: &mut TurnSeat<Held>,
     requires event { E.event ≡ claim worker }
     requires own { seat.old.turn ≡ turn.now }
     requires turn { (seat.old.serving ≡ true) × (seat.old.noted ≡ false) }
-    ensures noted { seat.new ≡ record seat.old { noted = true; seen = seat.old.seen ++ record { seat = seat.old.number; event = claim worker } ∷ []; mine = seat.old.mine ++ length seat.old.seen ∷ [] } }
+    ensures noted { seat.new ≡ with_entry seat.old (claim worker) }
     ensures own { places seat.new.number seat.new.seen ≡ seat.new.mine }
 {
     turn.note::<E>(seat);
@@ -68,7 +69,7 @@ pub(crate) fn note_finish<E: Entry>(
     requires event { E.event ≡ finish worker fault }
     requires own { seat.old.turn ≡ turn.now }
     requires turn { (seat.old.serving ≡ true) × (seat.old.noted ≡ false) }
-    ensures noted { seat.new ≡ record seat.old { noted = true; seen = seat.old.seen ++ record { seat = seat.old.number; event = finish worker fault } ∷ []; mine = seat.old.mine ++ length seat.old.seen ∷ [] } }
+    ensures noted { seat.new ≡ with_entry seat.old (finish worker fault) }
     ensures own { places seat.new.number seat.new.seen ≡ seat.new.mine }
 {
     turn.note::<E>(seat);

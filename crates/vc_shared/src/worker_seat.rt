@@ -77,8 +77,10 @@ impl<'a, R: Wait> WorkerSeat<'a, R> {
     ghost use Rattle.vc_shared.specs.Following.{WorkerFollows};
     ghost use Rattle.vc_shared.specs.Claims.{IsClaim, IsOfItsJob, FinishesJob};
 
-    /// The claim, of which `claim` has the clauses.
-    pub(crate) fn take_job(&mut self) -> Claimed
+    /// Claims the job of the slot that waits longest, in a turn of its own: it is one entry of the history. Where no slot
+    /// waits it is none, and the answer is Empty, or Over where the device is shut. The worker has no job. It waits for
+    /// its turn, and may wait for ever.
+    pub fn claim(&mut self) -> Claimed
         requires { slot_had self.old ≡ None }
         ensures follows { WorkerFollows self.old self.new }
         ensures claimed { IsClaim self.old self.new result }
@@ -93,8 +95,9 @@ impl<'a, R: Wait> WorkerSeat<'a, R> {
         claimed
     }
 
-    /// The finish, of which `finish` has the clauses.
-    pub(crate) fn bring_back(&mut self, finished: Finished)
+    /// Brings back the job of the worker, run or given up: it is one entry of the history. It waits for its turn, and
+    /// may wait for ever.
+    pub fn finish(&mut self, finished: Finished)
         requires { IsOfItsJob self.old finished }
         ensures follows { WorkerFollows self.old self.new }
         ensures finished { FinishesJob self.old self.new (is_fault finished) }
@@ -115,36 +118,5 @@ impl<'a, R: Wait> WorkerSeat<'a, R> {
         let rt = self.rt;
         let shared = self.shared;
         shared.bell.wait_past(rt, self.heard);
-    }
-}
-
-impl<'a, R: Wait + Sync> WorkerSeat<'a, R> {
-    ghost use Rattle.vc_shared.specs.Workers.{slot_had, IsWorker};
-    ghost use Rattle.vc_shared.specs.Following.{WorkerFollows};
-    ghost use Rattle.vc_shared.specs.Claims.{IsClaim, IsOfItsJob, FinishesJob};
-
-    /// Claims the job of the slot that waits longest, in a turn of its own: it is one entry of the history. Where no slot
-    /// waits it is none, and the answer is Empty, or Over where the device is shut. The worker has no job. It waits for
-    /// its turn, and may wait for ever.
-    pub fn claim(&mut self) -> Claimed
-        requires { slot_had self.old ≡ None }
-        ensures follows { WorkerFollows self.old self.new }
-        ensures claimed { IsClaim self.old self.new result }
-        ensures over { self.new.over ≡ is_over result }
-        ensures ready { IsWorker self.new }
-    {
-        self.take_job()
-    }
-
-    /// Brings back the job of the worker, run or given up: it is one entry of the history. It waits for its turn, and
-    /// may wait for ever.
-    pub fn finish(&mut self, finished: Finished)
-        requires { IsOfItsJob self.old finished }
-        ensures follows { WorkerFollows self.old self.new }
-        ensures finished { FinishesJob self.old self.new (is_fault finished) }
-        ensures over { self.new.over ≡ self.old.over }
-        ensures ready { IsWorker self.new }
-    {
-        self.bring_back(finished);
     }
 }

@@ -12,7 +12,7 @@ use Rattle.vc_base.specs.declared.Call.{Call}
 use Rattle.vc_base.specs.declared.Call.TheVariants.{Open, EnumFmt, GetFmt, TryFmt, SetFmt, ReqBufs, QueryBuf, QBuf, DqBuf, StreamOn, StreamOff, Subscribe, Unsubscribe, DqEvent, DecCmd, GetCtrl, Poll}
 use Rattle.vc_base.specs.declared.Reply.{Reply}
 use Rattle.vc_base.specs.declared.Reply.TheVariants.{Done, Fmt, Count, Taken, Refused, Blocked}
-use Rattle.vc_defs.specs.Headers.{most_bytes}
+use Rattle.vc_base.specs.Limits.{most_bytes}
 use Rattle.vc_defs.specs.Decoder.{FrameResult}
 use Rattle.vc_defs.specs.Outputs.{input_results, decode_output, is_damage, result_count}
 use Rattle.vc_model.specs.Places.{has_error}
@@ -89,7 +89,10 @@ JobsKeep =
 -- A QBuf on OUTPUT before the STOP adds the bytes that it hands over, where these are as many as it says.
 abbrev pub BytesAreQueued : Type 0
 BytesAreQueued =
-    (start old new : List SoloEvent) (f : StreamSoFar) (before after : HoldState) (index used : ℕ) (stamp : Stamp) → f.ends ≡ false → let bytes = handed_over (QBuf Out index used stamp) before in length bytes ≡ used → IsStream start f old → IsCallOn old before (QBuf Out index used stamp) Done new after → IsStream start (with_queued f bytes) new
+    (start old new : List SoloEvent) (f : StreamSoFar) (before after : HoldState) (index used : ℕ) (stamp : Stamp) → f.ends ≡ false →
+    let bytes = handed_over (QBuf Out index used stamp) before in
+    length bytes ≡ used → IsStream start f old → IsCallOn old before (QBuf Out index used stamp) Done new after →
+    IsStream start (with_queued f bytes) new
 
 -- An OUTPUT buffer without ERROR comes back, and the stream stays.
 abbrev pub SourcesComeBack : Type 0
@@ -99,7 +102,9 @@ SourcesComeBack =
 -- One with ERROR shows that a job failed since the start.
 abbrev pub FailedSourcesTell : Type 0
 FailedSourcesTell =
-    (start old new : List SoloEvent) (f : StreamSoFar) (before after : HoldState) (block : Bool) (index used flags seq : ℕ) (stamp : Stamp) → has_error flags ≡ true → IsStream start f old → IsCallOn old before (DqBuf Out block) (Taken index used flags seq stamp) new after → faulty_finishes start < faulty_finishes new
+    (start old new : List SoloEvent) (f : StreamSoFar) (before after : HoldState) (block : Bool) (index used flags seq : ℕ) (stamp : Stamp) →
+    has_error flags ≡ true → IsStream start f old → IsCallOn old before (DqBuf Out block) (Taken index used flags seq stamp) new after →
+    faulty_finishes start < faulty_finishes new
 
 -- Where no OUTPUT buffer is left to come back, no job failed.
 abbrev pub NoneLeftTells : Type 0
@@ -116,7 +121,9 @@ CaptureStarts =
 -- A CAPTURE buffer that is taken hands its bytes out, and is damaged where it has ERROR.
 abbrev pub PicturesAreTaken : Type 0
 PicturesAreTaken =
-    (start old new : List SoloEvent) (f : StreamSoFar) (before after : HoldState) (block : Bool) (index used flags seq : ℕ) (stamp : Stamp) → IsStream start f old → (call : IsCallOn old before (DqBuf Cap block) (Taken index used flags seq stamp) new after) → IsStream start (record f { handed = f.handed ++ call.handed; damaged = f.damaged || has_error flags }) new
+    (start old new : List SoloEvent) (f : StreamSoFar) (before after : HoldState) (block : Bool) (index used flags seq : ℕ) (stamp : Stamp) →
+    IsStream start f old → (call : IsCallOn old before (DqBuf Cap block) (Taken index used flags seq stamp) new after) →
+    IsStream start (record f { handed = f.handed ++ call.handed; damaged = f.damaged || has_error flags }) new
 
 -- EPIPE tells that the context stopped.
 abbrev pub StopsAreTold : Type 0
@@ -150,7 +157,7 @@ abbrev pub DrainIsOver : Type 0
 DrainIsOver =
     (start old new : List SoloEvent) (f : StreamSoFar) (before after : HoldState) → f.captures ≡ true → f.ends ≡ true → f.known ≡ some_stop → IsUnspoilt start f old → IsCallOn old before (DecCmd 1) Done new after → IsDecoded start f new
 
--- Where no job failed, what was handed out since the start is a front of the output of every input that begins with what was
+-- Where no job failed, what was handed out since the start is a prefix of the output of every input that begins with what was
 -- queued.
 pub record HandsFrontOut (start : List SoloEvent) (f : StreamSoFar) (events : List SoloEvent) (input : List ℕ) : Type 0 where
   pub handed : bytes_out events ≡ bytes_out start ++ f.handed

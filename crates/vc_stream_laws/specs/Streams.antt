@@ -5,7 +5,7 @@ use Rattle.std.specs.List.{list_all, list_any, flat_map}
 use Rattle.vc_base.specs.declared.Kind.TheVariants.{Dec}
 use Rattle.vc_base.specs.Buffers.{Buffer, QueueState}
 use Rattle.vc_defs.specs.declared.Geometry.{Geometry}
-use Rattle.vc_defs.specs.Headers.{most_bytes}
+use Rattle.vc_base.specs.Limits.{most_bytes}
 use Rattle.vc_defs.specs.Decoder.{FrameResult}
 use Rattle.vc_defs.specs.Outputs.{input_results, decode_output, is_damage, result_count}
 use Rattle.vc_model.specs.Coder.{the_coder}

@@ -98,7 +98,7 @@ pub fn drain_is_over()
     ensures { DrainIsOver }
 {}
 
-/// Where no job failed, what was handed out is a front of the output of what was queued.
+/// Where no job failed, what was handed out is a prefix of the output of what was queued.
 pub fn front_is_handed_out()
     ensures { FrontIsHandedOut }
 {}

@@ -50,10 +50,16 @@ Sat V = Me (Option V) View
 abbrev pub draws : {V : Type 0} → Step (Option V) → Sat V → ℕ → Sat V → Type 0
 draws s m found m' = (found ≡ s.first → m' ≡ (in_line m.0 found, m.1)) × (found ≢ s.first → m' ≡ m)
 
--- where the ticket is served, the seat is in its turn and has the value, which stands for the history. Else nothing changed
+-- The seat is in its turn and has the value, which stands for the history. What the seat had seen is a prefix of that, and
+-- its own entries are those that it noted.
+abbrev pub TakesTurn : {V : Type 0} → (V → List Noted → Type 0) → Sat V → Sat V → Type 0
+TakesTurn {V} stands m m' =
+    (value : V) × (log : List Noted) × (m' ≡ (at_turn m.0 log, (0, Some value) ∷ m.1)) × stands value log × IsPrefix m.0.seen log × (places m.0.number log ≡ m.0.mine) × (length log < 2 ^ 62)
+
+-- where the ticket is served, the seat takes its turn. Else nothing changed
 abbrev pub looks : {V : Type 0} → (V → List Noted → Type 0) → Step (Option V) → Sat V → ℕ → Sat V → Type 0
 looks {V} stands s m found m' =
-    (found ≡ m.0.ticket → (value : V) × (log : List Noted) × (m' ≡ (at_turn m.0 log, (0, Some value) ∷ m.1)) × stands value log × IsPrefix m.0.seen log × (places m.0.number log ≡ m.0.mine) × (length log < 2 ^ 62))
+    (found ≡ m.0.ticket → TakesTurn stands m m')
     × (found ≢ m.0.ticket → m' ≡ m)
 
 abbrev pub notes : {V : Type 0} → DeviceEvent → Step (Option V) → Sat V → ℕ → Sat V → Type 0

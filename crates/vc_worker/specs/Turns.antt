@@ -35,6 +35,12 @@ pub record Gained (before after : List Worked) (runs runs_after faults faults_af
   pub runs_stay : runs ≤ runs_after
   pub faults_stay : faults ≤ faults_after
 
+-- The same of a station and an engine before and after: `worked` tells what the station did, and `runs` and `faults` are the
+-- engine's counts.
+abbrev pub GainsBy : {S E : Type 0} → (S → List Worked) → (E → ℕ) → (E → ℕ) → S → E → S → E → Type 0
+GainsBy worked runs faults station engine station_after engine_after =
+    Gained (worked station) (worked station_after) (runs engine) (runs engine_after) (faults engine) (faults engine_after)
+
 -- A claim that gave no job.
 pub record FindsNone {S : Type 0} (claims : S → Claimed → S → Type 0) (old new : S) : Type 0 where
   pub gave : Claimed

@@ -1,7 +1,7 @@
 //! A caller that runs jobs while it waits.
 
 ghost use Rattle.std.specs.Prelude.{◌≡◌, None, false};
-ghost use Rattle.vc_worker.specs.Turns.{Gained, IsTurn, FindsNone};
+ghost use Rattle.vc_worker.specs.Turns.{GainsBy, IsTurn, FindsNone};
 
 use vc_base::{Call, Reply, Side};
 use vc_core::Engine;
@@ -20,7 +20,7 @@ impl<T: Station, E: Engine> Help<T, E> {
         requires { T.job self.old.station ≡ None }
         ensures idle { T.job self.new.station ≡ None }
         ensures follows { T.follows self.old.station self.new.station }
-        ensures gained { Gained (T.worked self.old.station) (T.worked self.new.station) (E.run_count self.old.engine) (E.run_count self.new.engine) (E.fault_count self.old.engine) (E.fault_count self.new.engine) }
+        ensures gained { GainsBy T.worked E.run_count E.fault_count self.old.station self.old.engine self.new.station self.new.engine }
         ensures turn { IsTurn result (T.worked self.old.station) (T.worked self.new.station) }
         ensures none { result ≡ false → FindsNone T.claims self.old.station self.new.station }
     {
@@ -48,13 +48,13 @@ impl<P: Port, T: Station, E: Engine> Port for Helping<P, T, E> {
     ghost use Rattle.std.specs.Prelude.{◌≡◌, None, false};
     ghost use Rattle.vc_worker.specs.Both.{Both, IfThere};
     ghost use Rattle.vc_worker.specs.Pauses.{IsPause};
-    ghost use Rattle.vc_worker.specs.Turns.{Gained, IsTurn, FindsNone};
+    ghost use Rattle.vc_worker.specs.Turns.{GainsBy, IsTurn, FindsNone};
 
     ghost answered = { λ h. P.answered h.port };
 
     ghost ready = { λ h. P.ready h.port × IfThere (λ x. T.job x.station ≡ None) h.help };
 
-    ghost follows = { λ a b. P.follows a.port b.port × Both (λ x y. T.follows x.station y.station × Gained (T.worked x.station) (T.worked y.station) (E.run_count x.engine) (E.run_count y.engine) (E.fault_count x.engine) (E.fault_count y.engine)) a.help b.help };
+    ghost follows = { λ a b. P.follows a.port b.port × Both (λ x y. T.follows x.station y.station × GainsBy T.worked E.run_count E.fault_count x.station x.engine y.station y.engine) a.help b.help };
 
     ghost calls = { λ a request told b. P.calls a.port request told b.port × (b.help ≡ a.help) };
 

@@ -1,7 +1,7 @@
 //! A worker by itself.
 
 ghost use Rattle.std.specs.Prelude.{◌≡◌, true, None};
-ghost use Rattle.vc_worker.specs.Turns.{Gained};
+ghost use Rattle.vc_worker.specs.Turns.{GainsBy};
 
 use std::sync::Wait;
 use vc_core::Engine;
@@ -22,7 +22,7 @@ pub fn serve<R: Wait, T: Station, E: Engine>(rt: &R, station: T, engine: E) -> S
     ensures over { T.over result.station ≡ true }
     ensures idle { T.job result.station ≡ None }
     ensures follows { T.follows station result.station }
-    ensures gained { Gained (T.worked station) (T.worked result.station) (E.run_count engine) (E.run_count result.engine) (E.fault_count engine) (E.fault_count result.engine) }
+    ensures gained { GainsBy T.worked E.run_count E.fault_count station engine result.station result.engine }
 {
     let mut station = station;
     let mut engine = engine;

@@ -1,6 +1,6 @@
 use Rattle.shared_rows.proofs.rows.run_next.Goals as goal
 
-pub finish-requires-after_bounds : goal.finish-requires-after_bounds
-finish-requires-after_bounds g c κs within =
+pub finish-requires : goal.finish-requires
+finish-requires g c =
     let j = c.in-Job.ensures.claimed in
     record { slot = j.slot; job = j.job; had = j.had; given = j.given; brings = c.run-finished.ensures.done j.slot j.job j.is_of }

@@ -1,6 +1,6 @@
 use Rattle.std.proofs.Common.{◌≡◌, Some, ap, subst}
 use Rattle.vc_shared.specs.Workers.{WorkerState, IsWorker}
-use Rattle.vc_crew.proofs.Helped.{made_of}
+use Rattle.vc_crew.proofs.HelpComesBack.{made_of}
 use Rattle.vc_crew.proofs.calling.worker_of.Goals as goal
 
 pub returns-in-Some : goal.returns-in-Some

@@ -1,8 +1,8 @@
 use Rattle.std.proofs.Common.{refl, false}
 use Rattle.vc_stream_laws.specs.Streams.{not_known}
 use Rattle.vc_decode_flow.specs.Steps.{stream_of}
-use Rattle.vc_decode_flow.proofs.Calls.{on_err}
-use Rattle.vc_decode_flow.proofs.Decoding.{drain_began, cut_going}
+use Rattle.vc_flow.proofs.Results.{on_err}
+use Rattle.vc_decode_flow.proofs.InputIsDecoded.{drain_began, cut_going}
 use Rattle.vc_decode_flow.proofs.draining.drain.Goals as goal
 
 pub returns-in_err-begin_drain-clause-cut : goal.returns-in_err-begin_drain-clause-cut

@@ -1,6 +1,7 @@
 use Rattle.std.proofs.Common.{refl}
-use Rattle.vc_stream_laws.proofs.Ending.{drain_is_over}
-use Rattle.vc_decode_flow.proofs.Calls.{bytes_stay, change_told}
+use Rattle.vc_stream_laws.proofs.HandedOutIsAPrefix.{drain_is_over}
+use Rattle.vc_flow.proofs.CallsHandOut.{bytes_stay}
+use Rattle.vc_decode_flow.proofs.CallsKeepAStream.{change_told}
 use Rattle.vc_decode_flow.proofs.draining.is_drained.Goals as goal
 
 pub returns-in-Done-clause-over : goal.returns-in-Done-clause-over

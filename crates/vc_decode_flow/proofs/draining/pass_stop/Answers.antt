@@ -1,7 +1,7 @@
 use Rattle.std.proofs.Common.{refl, true, ◌∙◌}
 use Rattle.vc_stream_laws.specs.Streams.{some_stop}
 use Rattle.vc_decode_flow.specs.Steps.{stream_of, with_change}
-use Rattle.vc_decode_flow.proofs.Decoding.{drained, going_again}
+use Rattle.vc_decode_flow.proofs.InputIsDecoded.{drained, going_again}
 use Rattle.vc_decode_flow.proofs.draining.pass_stop.Goals as goal
 
 pub returns-in-Ok-true-clause-over : goal.returns-in-Ok-true-clause-over

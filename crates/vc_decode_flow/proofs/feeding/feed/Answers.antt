@@ -1,6 +1,6 @@
 use Rattle.std.proofs.Common.{◌∙◌, refl, arith, ◌≤◌}
 use Rattle.vc_stream_laws.specs.Streams.{with_queued}
-use Rattle.vc_decode_flow.proofs.Fed.{fed_none, fed_more}
+use Rattle.vc_decode_flow.proofs.PiecesAreQueued.{fed_none, fed_more}
 use Rattle.vc_decode_flow.proofs.feeding.feed.Goals as goal
 
 pub loop-index-init : goal.loop-index-init

@@ -9,6 +9,9 @@ abbrev pub invariant-loop-index : goal.invariant-loop-index
 invariant-loop-index g l =
     g.P.Port.ready l.port
     × g.P.Port.follows l.initial.port l.port
-    × ((start : List SoloEvent) (f : StreamSoFar) (left : Option (List ℕ)) → f.ends ≡ false → IsStream start f (g.P.PayloadPort.events l.initial.port) → IsRead left (g.S.Source.left l.initial.source) l.initial.reading.coverage l.initial.reading.ended f.queued → HasFed start f left (g.S.Source.left l.source) l.reading.coverage l.reading.ended (g.P.PayloadPort.events l.port))
+    × ((start : List SoloEvent) (f : StreamSoFar) (left : Option (List ℕ)) → f.ends ≡ false →
+    IsStream start f (g.P.PayloadPort.events l.initial.port) → IsRead left (g.S.Source.left l.initial.source) l.initial.reading.coverage
+    l.initial.reading.ended f.queued → HasFed start f left (g.S.Source.left l.source) l.reading.coverage l.reading.ended
+    (g.P.PayloadPort.events l.port))
     × (bytes_out (g.P.PayloadPort.events l.port) ≡ bytes_out (g.P.PayloadPort.events l.initial.port))
     × (g.S.Source.faults l.initial.source ≤ g.S.Source.faults l.source)

@@ -1,4 +1,4 @@
-use Rattle.vc_decode_flow.proofs.Fed.{fed_end, fed_piece, no_long}
+use Rattle.vc_decode_flow.proofs.PiecesAreQueued.{fed_end, fed_piece, no_long}
 use Rattle.vc_decode_flow.proofs.feeding.feed_one.Goals as goal
 
 pub returns-in-Err-clause-long : goal.returns-in-Err-clause-long

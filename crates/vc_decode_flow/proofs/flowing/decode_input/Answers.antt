@@ -1,8 +1,8 @@
 use Rattle.std.proofs.Common.{◌≤◌, refl, arith, false, Bool, sym, subst}
 use Rattle.vc_stream_laws.specs.Streams.{not_known, stop_by_change}
 use Rattle.vc_decode_flow.specs.Steps.{stream_of, IsGoing, HasStopped}
-use Rattle.vc_decode_flow.proofs.Captures.{not_true, not_false}
-use Rattle.vc_decode_flow.proofs.Decoding.{decoding_fed, cut_decoding, cut_round, cut_stopped, changed, going_again}
+use Rattle.vc_decode_flow.proofs.TakenPicturesAreThere.{not_true, not_false}
+use Rattle.vc_decode_flow.proofs.InputIsDecoded.{decoding_fed, cut_decoding, cut_round, cut_stopped, changed, going_again}
 use Rattle.vc_decode_flow.proofs.flowing.decode_input.Goals as goal
 
 pub loop-init : goal.loop-init
@@ -37,7 +37,9 @@ returns-then-reading-clause-engine g c = λ start first left d e. absurd (cc)
 pub returns-in-Err-go_round-clause-cut : goal.returns-in-Err-go_round-clause-cut
 returns-in-Err-go_round-clause-cut g c = λ start first left d.
     let s = c.loop.invariant.2 start first left d in
-    let t = decoding_fed start _ _ _ first _ left _ _ _ _ _ _ s (c.in-Ok.ensures.fed start (stream_of s.queued s.going.handed _ false not_known) left refl s.going.at.stream s.read) c.feed.ensures.bytes in cut_round start _ first _ left _ _ _ t.queued t.read (c.in-Err-go_round.ensures.cut start t.queued _ false first t.going)
+    let t = decoding_fed start _ _ _ first _ left _ _ _ _ _ _ s
+    (c.in-Ok.ensures.fed start (stream_of s.queued s.going.handed _ false not_known) left refl s.going.at.stream s.read) c.feed.ensures.bytes in
+    cut_round start _ first _ left _ _ _ t.queued t.read (c.in-Err-go_round.ensures.cut start t.queued _ false first t.going)
 
 pub returns-in-Err-go_round-clause-long : goal.returns-in-Err-go_round-clause-long
 returns-in-Err-go_round-clause-long g c = λ start first left d e. absurd (c.in-Err-go_round.ensures.stops.1 (cc))
@@ -60,7 +62,15 @@ loop-preserved-then-not-round g c =
       c.go_round.ensures.ready,
       g.met.P.Port.follows_on _ _ _ i.1 (g.met.P.Port.follows_on _ _ _ c.feed.ensures.follows c.go_round.ensures.follows),
       λ start first left d. let s = c.loop.invariant.2 start first left d in
-          let t = decoding_fed start _ _ _ first _ left _ _ _ _ _ _ s (c.in-Ok.ensures.fed start (stream_of s.queued s.going.handed _ false not_known) left refl s.going.at.stream s.read) c.feed.ensures.bytes in record { queued = t.queued; going = subst (λ (b : Bool). IsGoing start t.queued b false not_known first (g.K.Sink.written c.go_round.new.sink) (g.P.PayloadPort.events c.go_round.new.port)) (sym c.is_either_damaged-damaged.ensures) (c.in-Ok-go_round.ensures.goes start t.queued _ false first t.going (not_true _ c.if-not-round.true)); read = t.read },
+          let t = decoding_fed start _ _ _ first _ left _ _ _ _ _ _ s
+          (c.in-Ok.ensures.fed start (stream_of s.queued s.going.handed _ false not_known) left refl s.going.at.stream s.read)
+          c.feed.ensures.bytes in record {
+            queued = t.queued;
+            going = subst (λ (b : Bool). IsGoing start t.queued b false not_known first (g.K.Sink.written c.go_round.new.sink)
+                (g.P.PayloadPort.events c.go_round.new.port)) (sym c.is_either_damaged-damaged.ensures)
+                (c.in-Ok-go_round.ensures.goes start t.queued _ false first t.going (not_true _ c.if-not-round.true));
+            read = t.read;
+          },
       omega (arith, a, b),
       omega (arith, m, n),
     )
@@ -75,7 +85,18 @@ loop-preserved g c =
       c.restart.ensures.ready,
       g.met.P.Port.follows_on _ _ _ i.1 (g.met.P.Port.follows_on _ _ _ c.feed.ensures.follows (g.met.P.Port.follows_on _ _ _ c.go_round.ensures.follows c.restart.ensures.follows)),
       λ start first left d. let s = c.loop.invariant.2 start first left d in
-          let t = decoding_fed start _ _ _ first _ left _ _ _ _ _ _ s (c.in-Ok.ensures.fed start (stream_of s.queued s.going.handed _ false not_known) left refl s.going.at.stream s.read) c.feed.ensures.bytes in let h = subst (λ (b : Bool). HasStopped start t.queued b false first (g.K.Sink.written c.go_round.new.sink) (g.P.PayloadPort.events c.go_round.new.port)) (sym c.is_either_damaged-damaged.ensures) (c.in-Ok-go_round.ensures.stopped start t.queued _ false first t.going (not_false _ c.if-not-round.false)) in record { queued = t.queued; going = going_again start _ _ t.queued _ false first _ h (c.in-Ok-restart.ensures.stream start (stream_of t.queued h.handed _ false stop_by_change) refl (changed start _ t.queued _ first _ h)) c.restart.ensures.bytes; read = t.read },
+          let t = decoding_fed start _ _ _ first _ left _ _ _ _ _ _ s
+          (c.in-Ok.ensures.fed start (stream_of s.queued s.going.handed _ false not_known) left refl s.going.at.stream s.read)
+          c.feed.ensures.bytes in let h = subst (λ (b : Bool). HasStopped start t.queued b false first (g.K.Sink.written c.go_round.new.sink)
+          (g.P.PayloadPort.events c.go_round.new.port)) (sym c.is_either_damaged-damaged.ensures)
+          (c.in-Ok-go_round.ensures.stopped start t.queued _ false first t.going (not_false _ c.if-not-round.false)) in
+          record {
+            queued = t.queued;
+            going = going_again start _ _ t.queued _ false first _ h
+                (c.in-Ok-restart.ensures.stream start (stream_of t.queued h.handed _ false stop_by_change) refl (changed start _ t.queued _ first _ h))
+                c.restart.ensures.bytes;
+            read = t.read;
+          },
       omega (arith, a, b),
       omega (arith, m, n),
     )
@@ -83,7 +104,11 @@ loop-preserved g c =
 pub returns-in-Err-restart-clause-cut : goal.returns-in-Err-restart-clause-cut
 returns-in-Err-restart-clause-cut g c = λ start first left d.
     let s = c.loop.invariant.2 start first left d in
-    let t = decoding_fed start _ _ _ first _ left _ _ _ _ _ _ s (c.in-Ok.ensures.fed start (stream_of s.queued s.going.handed _ false not_known) left refl s.going.at.stream s.read) c.feed.ensures.bytes in cut_round start _ first _ left _ _ _ t.queued t.read (cut_stopped start _ _ t.queued _ false first _ (c.in-Ok-go_round.ensures.stopped start t.queued _ false first t.going (not_false _ c.if-not-round.false)) c.restart.ensures.bytes)
+    let t = decoding_fed start _ _ _ first _ left _ _ _ _ _ _ s
+    (c.in-Ok.ensures.fed start (stream_of s.queued s.going.handed _ false not_known) left refl s.going.at.stream s.read) c.feed.ensures.bytes in
+    cut_round start _ first _ left _ _ _ t.queued t.read
+    (cut_stopped start _ _ t.queued _ false first _ (c.in-Ok-go_round.ensures.stopped start t.queued _ false first t.going
+    (not_false _ c.if-not-round.false)) c.restart.ensures.bytes)
 
 pub returns-in-Err-restart-clause-long : goal.returns-in-Err-restart-clause-long
 returns-in-Err-restart-clause-long g c = λ start first left d e. let m = c.in-Err-restart.ensures.memory in absurd (cc)

@@ -1,5 +1,6 @@
 use Rattle.std.proofs.Common.{true, false}
-use Rattle.vc_decode_flow.proofs.Ending.{is_written, is_front, came_through}
+use Rattle.vc_flow.proofs.FaultsShow.{has_failed_later}
+use Rattle.vc_decode_flow.proofs.EndsAreDefinedOutput.{is_written, is_front, came_through}
 use Rattle.vc_decode_flow.proofs.flowing.decode_on.Goals as goal
 
 pub returns-clause-whole : goal.returns-clause-whole
@@ -13,3 +14,11 @@ returns-clause-damaged g c = λ e.
 pub returns-clause-front : goal.returns-clause-front
 returns-clause-front g c =
     is_front _ _ _ _ _ _ _ _ c.run_flow-ended.ensures.through c.run_flow-ended.ensures.cut c.close_slot.ensures.bytes
+
+pub returns-clause-engine : goal.returns-clause-engine
+returns-clause-engine g c = λ e.
+    (has_failed_later _ _ _ (c.run_flow-ended.ensures.engine (c.end_of.ensures.engine e)) c.close_slot.ensures.goes_on).failed
+
+pub returns-clause-shown : goal.returns-clause-shown
+returns-clause-shown g c = λ e.
+    (has_failed_later _ _ _ (c.run_flow-ended.ensures.engine (c.end_of.ensures.engine e)) c.close_slot.ensures.goes_on).shows

@@ -1,20 +1,11 @@
 use Rattle.std.proofs.Common.{refl}
-use Rattle.vc_stream_laws.proofs.Opening.{opens}
-use Rattle.vc_decode_flow.proofs.Calls.{bytes_stay}
+use Rattle.vc_stream_laws.proofs.OpeningBeginsAStream.{opens}
+use Rattle.vc_flow.proofs.CallsHandOut.{bytes_stay}
+use Rattle.vc_flow.proofs.Results.{on_ok}
 use Rattle.vc_decode_flow.proofs.opening.open_slot.Goals as goal
 
-pub returns-in-Done-clause-opened : goal.returns-in-Done-clause-opened
-returns-in-Done-clause-opened g c = opens _ _ _ _ c.requires.closed c.in-Done.ensures.does
+pub returns-clause-opened : goal.returns-clause-opened
+returns-clause-opened g c = on_ok _ (λ d. opens _ _ _ _ c.requires.closed d) c.call_done.ensures.does
 
-pub returns-in-Done-clause-bytes : goal.returns-in-Done-clause-bytes
-returns-in-Done-clause-bytes g c = bytes_stay _ _ _ _ _ _ c.call_on.ensures.does refl
-
-pub returns-in_default : goal.returns-in_default
-returns-in_default g c =
-    record {
-      ready = c.call_on.ensures.ready;
-      follows = c.call_on.ensures.follows;
-      opened = tt;
-      bytes = bytes_stay _ _ _ _ _ _ c.call_on.ensures.does refl;
-      memory = refl;
-    }
+pub returns-clause-bytes : goal.returns-clause-bytes
+returns-clause-bytes g c = bytes_stay _ _ _ _ _ _ c.call_done.ensures.made.1 refl

@@ -1,20 +1,11 @@
 use Rattle.std.proofs.Common.{refl}
-use Rattle.vc_stream_laws.proofs.Opening.{stream_begins}
-use Rattle.vc_decode_flow.proofs.Calls.{bytes_stay}
+use Rattle.vc_stream_laws.proofs.OpeningBeginsAStream.{stream_begins}
+use Rattle.vc_flow.proofs.CallsHandOut.{bytes_stay}
+use Rattle.vc_flow.proofs.Results.{on_ok}
 use Rattle.vc_decode_flow.proofs.opening.stream_sources.Goals as goal
 
-pub returns-in-Done-clause-stream : goal.returns-in-Done-clause-stream
-returns-in-Done-clause-stream g c = λ start w. stream_begins start _ _ _ _ w c.in-Done.ensures.does
+pub returns-clause-stream : goal.returns-clause-stream
+returns-clause-stream g c = λ start w. on_ok _ (λ d. stream_begins start _ _ _ _ w d) c.call_done.ensures.does
 
-pub returns-in-Done-clause-bytes : goal.returns-in-Done-clause-bytes
-returns-in-Done-clause-bytes g c = bytes_stay _ _ _ _ _ _ c.call_on.ensures.does refl
-
-pub returns-in_default : goal.returns-in_default
-returns-in_default g c =
-    record {
-      ready = c.call_on.ensures.ready;
-      follows = c.call_on.ensures.follows;
-      stream = λ start w. tt;
-      bytes = bytes_stay _ _ _ _ _ _ c.call_on.ensures.does refl;
-      memory = refl;
-    }
+pub returns-clause-bytes : goal.returns-clause-bytes
+returns-clause-bytes g c = bytes_stay _ _ _ _ _ _ c.call_done.ensures.made.1 refl

@@ -1,8 +1,9 @@
 use Rattle.std.proofs.Common.{◌≡◌, ◌∙◌, Some, None}
 use Rattle.vc_stream_laws.specs.Streams.{not_known}
 use Rattle.vc_decode_flow.specs.Steps.{stream_of, with_picture}
-use Rattle.vc_decode_flow.proofs.Calls.{stream_of_unspoilt, first_stays}
-use Rattle.vc_decode_flow.proofs.Going.{stopped_at, still_going, took, taken_some, taken_none, there_still, to_write_still, give_goes, give_stops, no_engine}
+use Rattle.vc_decode_flow.proofs.CallsKeepAStream.{stream_of_unspoilt}
+use Rattle.vc_flow.proofs.CallsHandOut.{first_stays}
+use Rattle.vc_decode_flow.proofs.RoundsWritePictures.{stopped_at, still_going, took, taken_some, taken_none, there_still, to_write_still, give_goes, give_stops, no_engine}
 use Rattle.vc_decode_flow.proofs.rounds.go_round.Goals as goal
 
 pub returns-in-Err-clause-cut : goal.returns-in-Err-clause-cut
@@ -14,7 +15,11 @@ returns-in-Err-clause-engine g c = λ start queued damaged ends first w e. let m
 
 pub returns-in-Err-take_sources-clause-cut : goal.returns-in-Err-take_sources-clause-cut
 returns-in-Err-take_sources-clause-cut g c = λ start queued damaged ends first w.
-    stopped_at start (stream_of queued w.handed damaged ends not_known) first _ _ _ w.at (λ bytes h. first_stays start bytes (g.P.PayloadPort.events c.take_capture.new.port) (g.P.PayloadPort.events c.take_sources.new.port) c.take_sources.ensures.bytes (c.take_capture.ensures.hands start bytes (first_stays start bytes (g.P.PayloadPort.events c.args.port.now) (g.P.PayloadPort.events c.next_event-event.new.port) c.next_event-event.ensures.bytes h)))
+    stopped_at start (stream_of queued w.handed damaged ends not_known) first _ _ _ w.at
+    (λ bytes h. first_stays start bytes (g.P.PayloadPort.events c.take_capture.new.port) (g.P.PayloadPort.events c.take_sources.new.port)
+    c.take_sources.ensures.bytes (c.take_capture.ensures.hands start bytes
+    (first_stays start bytes (g.P.PayloadPort.events c.args.port.now) (g.P.PayloadPort.events c.next_event-event.new.port)
+    c.next_event-event.ensures.bytes h)))
 
 pub returns-in-Err-take_sources-clause-engine : goal.returns-in-Err-take_sources-clause-engine
 returns-in-Err-take_sources-clause-engine g c = λ start queued damaged ends first w e.
@@ -31,14 +36,18 @@ returns-in-Some-clause-goes g c = λ start queued damaged ends first w.
     let f = stream_of queued w.handed damaged ends not_known in
     let k = taken_some start f _ c.in-Some.taken _ _ _ c.in-Some.is (c.in-Ok.ensures.taken start f (c.next_event-event.ensures.stream start f w.at.stream)) in
     let u = c.in-Ok-take_sources.ensures.unspoilt start (with_picture f c.in-Some.taken k.picture) k.stream in
-    give_goes start queued w.handed damaged ends c.in-Some.taken first _ _ _ c.give.ensures.told (c.give.ensures.at start f first (to_write_still start f c.in-Some.taken first _ (g.P.PayloadPort.hold c.take_capture.new.port) (g.P.PayloadPort.hold c.take_sources.new.port) _ _ _ w.at.wrote c.in-Ok-take_sources.ensures.payloads k u))
+    give_goes start queued w.handed damaged ends c.in-Some.taken first _ _ _ c.give.ensures.told
+    (c.give.ensures.at start f first (to_write_still start f c.in-Some.taken first _ (g.P.PayloadPort.hold c.take_capture.new.port)
+    (g.P.PayloadPort.hold c.take_sources.new.port) _ _ _ w.at.wrote c.in-Ok-take_sources.ensures.payloads k u))
 
 pub returns-in-Some-clause-stopped : goal.returns-in-Some-clause-stopped
 returns-in-Some-clause-stopped g c = λ start queued damaged ends first w.
     let f = stream_of queued w.handed damaged ends not_known in
     let k = taken_some start f _ c.in-Some.taken _ _ _ c.in-Some.is (c.in-Ok.ensures.taken start f (c.next_event-event.ensures.stream start f w.at.stream)) in
     let u = c.in-Ok-take_sources.ensures.unspoilt start (with_picture f c.in-Some.taken k.picture) k.stream in
-    give_stops start queued w.handed damaged ends c.in-Some.taken first _ _ _ c.give.ensures.told (c.give.ensures.at start f first (to_write_still start f c.in-Some.taken first _ (g.P.PayloadPort.hold c.take_capture.new.port) (g.P.PayloadPort.hold c.take_sources.new.port) _ _ _ w.at.wrote c.in-Ok-take_sources.ensures.payloads k u))
+    give_stops start queued w.handed damaged ends c.in-Some.taken first _ _ _ c.give.ensures.told
+    (c.give.ensures.at start f first (to_write_still start f c.in-Some.taken first _ (g.P.PayloadPort.hold c.take_capture.new.port)
+    (g.P.PayloadPort.hold c.take_sources.new.port) _ _ _ w.at.wrote c.in-Ok-take_sources.ensures.payloads k u))
 
 pub returns-in-Some-clause-cut : goal.returns-in-Some-clause-cut
 returns-in-Some-clause-cut g c = λ start queued damaged ends first w.

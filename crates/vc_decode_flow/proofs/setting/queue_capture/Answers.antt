@@ -1,5 +1,6 @@
 use Rattle.std.proofs.Common.{refl}
-use Rattle.vc_decode_flow.proofs.Calls.{bytes_stay, quiet_keeps}
+use Rattle.vc_flow.proofs.CallsHandOut.{bytes_stay}
+use Rattle.vc_decode_flow.proofs.CallsKeepAStream.{quiet_keeps}
 use Rattle.vc_decode_flow.proofs.setting.queue_capture.Goals as goal
 
 pub returns-in-Done-clause-stream : goal.returns-in-Done-clause-stream

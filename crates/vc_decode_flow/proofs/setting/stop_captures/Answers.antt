@@ -1,6 +1,6 @@
 use Rattle.std.proofs.Common.{refl}
-use Rattle.vc_stream_laws.proofs.Asking.{capture_stops}
-use Rattle.vc_decode_flow.proofs.Calls.{bytes_stay}
+use Rattle.vc_stream_laws.proofs.CallsOfAClient.{capture_stops}
+use Rattle.vc_flow.proofs.CallsHandOut.{bytes_stay}
 use Rattle.vc_decode_flow.proofs.setting.stop_captures.Goals as goal
 
 pub returns-in-Done-clause-stream : goal.returns-in-Done-clause-stream

@@ -1,7 +1,7 @@
 use Rattle.std.proofs.Common.{refl}
 use Rattle.vc_base.specs.declared.Errno.TheVariants.{Pipe}
-use Rattle.vc_encode_flow.proofs.Asking.{hands_first}
-use Rattle.vc_decode_flow.proofs.Calls.{finds_stop, refusal_keeps, nothing_handed}
+use Rattle.vc_flow.proofs.CallsHandOut.{hands_first}
+use Rattle.vc_decode_flow.proofs.CallsKeepAStream.{finds_stop, refusal_keeps, nothing_handed}
 use Rattle.vc_decode_flow.proofs.taking.find_stopped.Goals as goal
 
 pub returns-in-Refused-Pipe-clause-stream : goal.returns-in-Refused-Pipe-clause-stream

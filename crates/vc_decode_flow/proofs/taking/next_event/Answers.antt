@@ -1,5 +1,6 @@
 use Rattle.std.proofs.Common.{refl, ◌∙◌}
-use Rattle.vc_decode_flow.proofs.Calls.{bytes_stay, quiet_keeps}
+use Rattle.vc_flow.proofs.CallsHandOut.{bytes_stay}
+use Rattle.vc_decode_flow.proofs.CallsKeepAStream.{quiet_keeps}
 use Rattle.vc_decode_flow.proofs.taking.next_event.Goals as goal
 
 pub returns-in-Happened-clause-stream : goal.returns-in-Happened-clause-stream

@@ -1,9 +1,8 @@
 use Rattle.std.proofs.Common.{refl, false}
-use Rattle.vc_encode_flow.proofs.Asking.{hands_first}
-use Rattle.vc_encode_flow.proofs.Taken.{there}
-use Rattle.vc_stream_laws.proofs.Asking.{quiet_calls_keep}
-use Rattle.vc_decode_flow.proofs.Calls.{bytes_stay}
-use Rattle.vc_decode_flow.proofs.Captures.{not_true, not_false, taken_now, taken_last, there_kept}
+use Rattle.vc_flow.proofs.CallsHandOut.{hands_first, bytes_stay}
+use Rattle.vc_flow.proofs.TakenIsThere.{there}
+use Rattle.vc_stream_laws.proofs.CallsOfAClient.{quiet_calls_keep}
+use Rattle.vc_decode_flow.proofs.TakenPicturesAreThere.{not_true, not_false, taken_now, taken_last, there_kept}
 use Rattle.vc_decode_flow.proofs.taking.take_capture.Goals as goal
 
 pub returns-then-not-taken-clause-there : goal.returns-then-not-taken-clause-there
@@ -26,7 +25,10 @@ returns-in_ok-find_stopped-in-Taken-clause-there g c =
 
 pub returns-in_ok-find_stopped-in-Taken-clause-taken : goal.returns-in_ok-find_stopped-in-Taken-clause-taken
 returns-in_ok-find_stopped-in-Taken-clause-taken g c = λ start f w.
-    taken_last start _ _ _ f (g.P.PayloadPort.hold c.call_on.new.port) (g.P.PayloadPort.hold c.find_stopped.new.port) _ _ _ _ (not_false _ c.if-not-taken.false) c.in_ok-find_stopped-in-Taken.ensures.payloads c.in_ok-find_stopped-in-Taken.ensures.bytes (λ h v. c.in_ok-find_stopped-in-Taken.ensures.stream start h v) (taken_now start _ _ f _ _ _ _ _ _ _ _ _ false c.is_failed.ensures refl c.call_on.ensures.fit c.in-Taken.ensures.does w)
+    taken_last start _ _ _ f (g.P.PayloadPort.hold c.call_on.new.port) (g.P.PayloadPort.hold c.find_stopped.new.port) _ _ _ _
+    (not_false _ c.if-not-taken.false) c.in_ok-find_stopped-in-Taken.ensures.payloads c.in_ok-find_stopped-in-Taken.ensures.bytes
+    (λ h v. c.in_ok-find_stopped-in-Taken.ensures.stream start h v)
+    (taken_now start _ _ f _ _ _ _ _ _ _ _ _ false c.is_failed.ensures refl c.call_on.ensures.fit c.in-Taken.ensures.does w)
 
 pub returns-in_ok-find_stopped-in-Taken-clause-hands : goal.returns-in_ok-find_stopped-in-Taken-clause-hands
 returns-in_ok-find_stopped-in-Taken-clause-hands g c = λ start bytes h.

@@ -1,14 +1,19 @@
 use Rattle.std.proofs.Common.{◌≡◌, refl, true, false}
 use Rattle.vc_base.specs.declared.Errno.TheVariants.{Again}
 use Rattle.vc_model.specs.Places.{has_error}
-use Rattle.vc_stream_laws.proofs.Asking.{failed_sources_tell, sources_come_back}
-use Rattle.vc_decode_flow.proofs.Calls.{bytes_stay, none_left, source_keeps, refusal_keeps}
+use Rattle.vc_stream_laws.proofs.CallsOfAClient.{failed_sources_tell, sources_come_back}
+use Rattle.vc_flow.proofs.CallsHandOut.{bytes_stay}
+use Rattle.vc_flow.proofs.FaultsShow.{shows_before, source_shows}
+use Rattle.vc_decode_flow.proofs.CallsKeepAStream.{none_left, source_keeps, refusal_keeps}
 use Rattle.vc_decode_flow.proofs.taking.take_source.Goals as goal
 
 pub returns-then-is_failed-clause-engine : goal.returns-then-is_failed-clause-engine
 returns-then-is_failed-clause-engine g c = λ start f w e.
     let failed : has_error c.in-Taken.flags ≡ true = cc in
-    failed_sources_tell start _ _ f _ _ _ _ _ _ _ _ failed w c.in-Taken.ensures.does
+    record {
+      shows = shows_before start _ _ (w.since, w.goes_on) (source_shows _ _ _ _ _ _ _ _ _ _ failed c.in-Taken.ensures.does);
+      failed = failed_sources_tell start _ _ f _ _ _ _ _ _ _ _ failed w c.in-Taken.ensures.does;
+    }
 
 pub returns-then-is_failed-clause-bytes : goal.returns-then-is_failed-clause-bytes
 returns-then-is_failed-clause-bytes g c = bytes_stay _ _ _ _ _ _ c.call_on.ensures.does refl

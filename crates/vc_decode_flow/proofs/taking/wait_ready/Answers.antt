@@ -1,7 +1,8 @@
 use Rattle.std.proofs.Common.{refl, ap, ◌∙◌, subst, sym}
 use Rattle.vc_port.specs.Payloads.{bytes_out}
 use Rattle.vc_stream_laws.specs.Streams.{IsStream}
-use Rattle.vc_decode_flow.proofs.Calls.{bytes_stay, quiet_keeps}
+use Rattle.vc_flow.proofs.CallsHandOut.{bytes_stay}
+use Rattle.vc_decode_flow.proofs.CallsKeepAStream.{quiet_keeps}
 use Rattle.vc_decode_flow.proofs.taking.wait_ready.Goals as goal
 
 pub loop-preserved : goal.loop-preserved

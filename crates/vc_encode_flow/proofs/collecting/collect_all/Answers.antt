@@ -1,6 +1,6 @@
 use Rattle.std.proofs.Common.{◌≡◌, arith, subst}
 use Rattle.vc_encode_flow.specs.Steps.{HasTaken, with_frames}
-use Rattle.vc_encode_flow.proofs.Stopping.{none_taken, more_taken, stopped_after}
+use Rattle.vc_encode_flow.proofs.StoppingWritesAPrefix.{none_taken, more_taken, stopped_after}
 use Rattle.vc_encode_flow.proofs.collecting.collect_all.Goals as goal
 
 pub loop-frame-preserved : goal.loop-frame-preserved

@@ -1,16 +1,10 @@
-use Rattle.std.proofs.Common.{ℕ, ◌≡◌, ◌≤◌, ◌+◌, ◌-◌, ◌++◌, List, length, take, sym, ap, ◌∙◌, subst, arith, length-take, append_assoc, Option, Some, None}
+use Rattle.std.proofs.Common.{ℕ, ◌≡◌, ◌≤◌, ◌+◌, ◌-◌, ◌++◌, List, length, take, sym, ap, ◌∙◌, subst, arith, length-take}
 use Rattle.std.proofs.lemmas.List.{take-append-le}
 use Rattle.std.proofs.Math.Seq.{take-append-add}
 use Rattle.std.specs.Io.KnownBytes.{Consumes}
+use Rattle.std.proofs.KnownBytes.{Consumes-trans}
 use borrow.Rule.Slice.PartMut.{put_mid, mid_of, post_of, same_len_mid, mid_len}
 use Rattle.vc_encode_flow.proofs.feeding.read_picture.Goals as goal
-
--- one read after another
-consumes_both : (old mid new : Option (List ℕ)) (xs ys : List ℕ) → Consumes old mid xs → Consumes mid new ys → Consumes old new (xs ++ ys)
-consumes_both None mid new xs ys a b = tt
-consumes_both (Some o) None new xs ys a b = absurd a
-consumes_both (Some o) (Some m) None xs ys a b = absurd b
-consumes_both (Some o) (Some m) (Some n) xs ys a b = a ∙ (ap (λ z. xs ++ z) b ∙ sym (append_assoc xs ys n))
 
 read_so_far : (p buf : List ℕ) (at n : ℕ) → at ≤ length p → n ≤ length buf → take (at + n) (put_mid at (length p - at) p buf) ≡ take at p ++ take n buf
 read_so_far p buf at n l m =
@@ -28,7 +22,7 @@ reading-preserved g c =
     let size = same_len_mid at (length p - at) p buf part in
     let room : length buf ≡ length p - at = part ∙ mid_len at (length p) p (omega arith) in
     let bound : n ≤ length buf = c.in-Ok.ensures.bound.0 in
-    let read = consumes_both _ _ _ _ _ i.2 c.in-Ok.ensures.bytes.0 in
+    let read = Consumes-trans _ _ _ _ _ i.2 c.in-Ok.ensures.bytes.0 in
     let later = c.in-Ok.ensures.cause.never_falls in
     let before = i.3 in (
       size ∙ i.0,

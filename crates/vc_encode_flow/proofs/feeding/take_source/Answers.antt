@@ -1,6 +1,6 @@
 use Rattle.std.proofs.Common.{refl}
-use Rattle.vc_encode_flow.proofs.Asking.{hands_first}
-use Rattle.vc_encode_flow.proofs.Filling.{source_taken}
+use Rattle.vc_flow.proofs.CallsHandOut.{hands_first}
+use Rattle.vc_encode_flow.proofs.SourcesGoOn.{source_taken}
 use Rattle.vc_encode_flow.proofs.feeding.take_source.Goals as goal
 
 pub returns-in-Taken-clause-flow : goal.returns-in-Taken-clause-flow

@@ -1,8 +1,8 @@
 use Rattle.std.proofs.Common.{◌≡◌, ◌<◌, ◌≤◌, nat_eq, length, take, arith, length-take, subst, ◌∙◌}
 use Rattle.std.proofs.lemmas.List.{take_all}
 use Rattle.std.specs.Io.KnownBytes.{Consumes}
-use Rattle.vc_encode_flow.proofs.Stopping.{on_err}
-use Rattle.vc_encode_flow.proofs.Going.{with_both, goes, goes_on_next, goes_through, goes_wrong, goes_no_further, goes_unfed_next, read_none, read_more, passed_on, is_zero, is_more}
+use Rattle.vc_flow.proofs.Results.{on_err, passed_on}
+use Rattle.vc_encode_flow.proofs.BetweenPictures.{with_both, goes, goes_on_next, goes_through, goes_wrong, goes_no_further, goes_unfed_next, read_none, read_more, is_zero, is_more}
 use Rattle.vc_encode_flow.proofs.flowing.encode_pictures.Goals as goal
 
 pub loop-number-init : goal.loop-number-init
@@ -40,7 +40,9 @@ returns-then-count-picture-clause-through g c = λ start f first b a.
     let short : count < length picture = omega (arith, c.if-count-picture.true, c.in_ok-count.ensures.size) in
     let number : length (take count picture) ≡ count = omega (arith, short, length-take count picture) in
     let ended = c.in_ok-count.ensures.end short in
-    goes_through start f _ _ _ (nat_eq count 0) first _ _ _ _ _ _ _ (take count picture) w c.in_ok-count.ensures.bytes ended (omega (arith, same, short, number)) (λ q. number ∙ is_zero count q) (λ q. let some = is_more count q in omega (arith, some, number)) (omega (arith, c.min.ensures, c.from.ensures)) (c.in_ok-collect_all.ensures.taken start (with_both f w.pictures w.frames) first w.at)
+    goes_through start f _ _ _ (nat_eq count 0) first _ _ _ _ _ _ _ (take count picture) w c.in_ok-count.ensures.bytes ended
+    (omega (arith, same, short, number)) (λ q. number ∙ is_zero count q) (λ q. let some = is_more count q in omega (arith, some, number))
+    (omega (arith, c.min.ensures, c.from.ensures)) (c.in_ok-collect_all.ensures.taken start (with_both f w.pictures w.frames) first w.at)
 
 pub returns-in_err-index-clause-stopped : goal.returns-in_err-index-clause-stopped
 returns-in_err-index-clause-stopped g c = λ start f first b a.

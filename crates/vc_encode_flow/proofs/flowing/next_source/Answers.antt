@@ -1,6 +1,7 @@
 use Rattle.vc_encode_flow.specs.Flows.{IsFlow}
 use Rattle.vc_encode_flow.specs.Steps.{HasTaken, with_frames}
-use Rattle.vc_encode_flow.proofs.Stopping.{none_taken, stopped_later, on_err, on_ok, same_error}
+use Rattle.vc_encode_flow.proofs.StoppingWritesAPrefix.{none_taken, stopped_later}
+use Rattle.vc_flow.proofs.Results.{on_err, on_ok, same_error}
 use Rattle.vc_encode_flow.proofs.flowing.next_source.Goals as goal
 
 pub returns-then-number-from-clause-first : goal.returns-then-number-from-clause-first
@@ -9,7 +10,9 @@ returns-then-number-from-clause-first g c = λ l start f first a. none_taken sta
 pub returns-in-Ok-clause-later_on : goal.returns-in-Ok-clause-later_on
 returns-in-Ok-clause-later_on g c = λ l start f first a.
     let h = c.in-Ok.ensures.taken start f first a in
-    let more : IsFlow start (with_frames f h.frames) (g.P.PayloadPort.events c.take_source.new.port) → HasTaken start f 1 first (g.K.Sink.written c.collect.new.sink) (g.P.PayloadPort.events c.take_source.new.port) = λ w. record { frames = h.frames; number = h.number; at = record { flow = w; wrote = h.at.wrote } } in
+    let more : IsFlow start (with_frames f h.frames) (g.P.PayloadPort.events c.take_source.new.port) →
+    HasTaken start f 1 first (g.K.Sink.written c.collect.new.sink) (g.P.PayloadPort.events c.take_source.new.port) = λ w. record
+    { frames = h.frames; number = h.number; at = record { flow = w; wrote = h.at.wrote } } in
     on_ok _ more (c.take_source.ensures.flow start (with_frames f h.frames) h.at.flow)
 
 pub returns-in-Ok-clause-stopped : goal.returns-in-Ok-clause-stopped

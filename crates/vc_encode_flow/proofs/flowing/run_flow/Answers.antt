@@ -1,6 +1,6 @@
 use Rattle.std.proofs.Common.{refl, []}
-use Rattle.vc_encode_flow.proofs.Stopping.{on_err}
-use Rattle.vc_encode_flow.proofs.Ending.{at_open, handed_none, cut_at_once}
+use Rattle.vc_flow.proofs.Results.{on_err}
+use Rattle.vc_encode_flow.proofs.EndsAreDefinedOutput.{at_open, handed_none, cut_at_once}
 use Rattle.vc_encode_flow.proofs.flowing.run_flow.Goals as goal
 
 pub returns-in_default-clause-stopped : goal.returns-in_default-clause-stopped

@@ -1,6 +1,7 @@
 use Rattle.std.proofs.Common.{ℕ, List}
 use Rattle.vc_model.specs.Solo.{SoloEvent}
-use Rattle.vc_encode_flow.specs.Flows.{FlowSoFar, IsFlow, HandedFirst}
+use Rattle.vc_encode_flow.specs.Flows.{FlowSoFar, IsFlow}
+use Rattle.vc_flow.specs.Calls.{HandedFirst}
 use Rattle.vc_encode_flow.proofs.opening.queue_captures.Given as goal
 
 abbrev pub invariant-loop-index : goal.invariant-loop-index

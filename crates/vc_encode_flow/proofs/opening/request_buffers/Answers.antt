@@ -1,19 +1,10 @@
-use Rattle.std.proofs.Common.{refl}
-use Rattle.vc_encode_flow.proofs.Asking.{buffers_requested, hands_first}
+use Rattle.vc_flow.proofs.CallsHandOut.{hands_first}
+use Rattle.vc_flow.proofs.Results.{on_ok}
+use Rattle.vc_encode_flow.proofs.OpeningCallsOnAPort.{buffers_requested}
 use Rattle.vc_encode_flow.proofs.opening.request_buffers.Goals as goal
 
-pub returns-in-Count-clause-flow : goal.returns-in-Count-clause-flow
-returns-in-Count-clause-flow g c = λ start f b w. buffers_requested start f _ _ _ _ _ _ _ b c.in-Count.ensures.does w
+pub returns-clause-flow : goal.returns-clause-flow
+returns-clause-flow g c = λ start f b w. on_ok _ (λ d. buffers_requested start f _ _ _ _ _ _ _ b d.1 w) c.request_buffers.ensures.does
 
-pub returns-in-Count-clause-hands : goal.returns-in-Count-clause-hands
-returns-in-Count-clause-hands g c = λ start bytes h. hands_first start bytes _ _ _ _ _ _ c.call_on.ensures.does h
-
-pub returns-in_default : goal.returns-in_default
-returns-in_default g c =
-    record {
-      ready = c.call_on.ensures.ready;
-      follows = c.call_on.ensures.follows;
-      flow = λ start f b w. tt;
-      hands = λ start bytes h. hands_first start bytes _ _ _ _ _ _ c.call_on.ensures.does h;
-      memory = refl;
-    }
+pub returns-clause-hands : goal.returns-clause-hands
+returns-clause-hands g c = λ start bytes h. hands_first start bytes _ _ _ _ _ _ c.request_buffers.ensures.made.1 h

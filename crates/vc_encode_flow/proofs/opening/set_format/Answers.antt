@@ -1,19 +1,10 @@
-use Rattle.std.proofs.Common.{refl}
-use Rattle.vc_encode_flow.proofs.Asking.{format_set, hands_first}
+use Rattle.vc_flow.proofs.CallsHandOut.{hands_first}
+use Rattle.vc_flow.proofs.Results.{on_ok}
+use Rattle.vc_encode_flow.proofs.OpeningCallsOnAPort.{format_set}
 use Rattle.vc_encode_flow.proofs.opening.set_format.Goals as goal
 
-pub returns-in-Fmt-clause-flow : goal.returns-in-Fmt-clause-flow
-returns-in-Fmt-clause-flow g c = λ start f b w. format_set start f _ _ _ _ _ _ c.requires.kept b c.in-Fmt.ensures.does w
+pub returns-clause-flow : goal.returns-clause-flow
+returns-clause-flow g c = λ start f b w. on_ok _ (λ d. format_set start f _ _ _ _ _ _ c.requires.kept b d.1 w) c.set_format.ensures.does
 
-pub returns-in-Fmt-clause-hands : goal.returns-in-Fmt-clause-hands
-returns-in-Fmt-clause-hands g c = λ start bytes h. hands_first start bytes _ _ _ _ _ _ c.call_on.ensures.does h
-
-pub returns-in_default : goal.returns-in_default
-returns-in_default g c =
-    record {
-      ready = c.call_on.ensures.ready;
-      follows = c.call_on.ensures.follows;
-      flow = λ start f b w. tt;
-      hands = λ start bytes h. hands_first start bytes _ _ _ _ _ _ c.call_on.ensures.does h;
-      memory = refl;
-    }
+pub returns-clause-hands : goal.returns-clause-hands
+returns-clause-hands g c = λ start bytes h. hands_first start bytes _ _ _ _ _ _ c.set_format.ensures.made.1 h

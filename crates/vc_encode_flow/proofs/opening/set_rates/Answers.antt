@@ -1,6 +1,6 @@
 use Rattle.vc_defs.specs.Encoder.{RunRates}
 use Rattle.vc_encode_flow.specs.Flows.{with_rates}
-use Rattle.vc_encode_flow.proofs.Setting.{gop_set, iqp_set, pqp_set}
+use Rattle.vc_encode_flow.proofs.RatesAreSet.{gop_set, iqp_set, pqp_set}
 use Rattle.vc_encode_flow.proofs.opening.set_rates.Goals as goal
 
 pub returns-clause-flow : goal.returns-clause-flow

@@ -1,19 +1,10 @@
-use Rattle.std.proofs.Common.{refl}
-use Rattle.vc_encode_flow.proofs.Asking.{streamed, hands_first}
+use Rattle.vc_flow.proofs.CallsHandOut.{hands_first}
+use Rattle.vc_flow.proofs.Results.{on_ok}
+use Rattle.vc_encode_flow.proofs.OpeningCallsOnAPort.{streamed}
 use Rattle.vc_encode_flow.proofs.opening.stream.Goals as goal
 
-pub returns-in-Done-clause-flow : goal.returns-in-Done-clause-flow
-returns-in-Done-clause-flow g c = λ start f w. streamed start f _ _ _ _ _ c.in-Done.ensures.does w
+pub returns-clause-flow : goal.returns-clause-flow
+returns-clause-flow g c = λ start f w. on_ok _ (λ d. streamed start f _ _ _ _ _ d w) c.call_done.ensures.does
 
-pub returns-in-Done-clause-hands : goal.returns-in-Done-clause-hands
-returns-in-Done-clause-hands g c = λ start bytes h. hands_first start bytes _ _ _ _ _ _ c.call_on.ensures.does h
-
-pub returns-in_default : goal.returns-in_default
-returns-in_default g c =
-    record {
-      ready = c.call_on.ensures.ready;
-      follows = c.call_on.ensures.follows;
-      flow = λ start f w. tt;
-      hands = λ start bytes h. hands_first start bytes _ _ _ _ _ _ c.call_on.ensures.does h;
-      memory = refl;
-    }
+pub returns-clause-hands : goal.returns-clause-hands
+returns-clause-hands g c = λ start bytes h. hands_first start bytes _ _ _ _ _ _ c.call_done.ensures.made.1 h

@@ -1,8 +1,8 @@
 use Rattle.std.proofs.Common.{◌≡◌, ◌+◌, ◌-◌, arith, subst}
 use Rattle.vc_encode_flow.specs.Flows.{IsFlow}
 use Rattle.vc_encode_flow.specs.Shares.{IsSharing}
-use Rattle.vc_encode_flow.proofs.Shared.{sharing_flow}
-use Rattle.vc_encode_flow.proofs.Stopping.{on_ok, no_fault, same_error}
+use Rattle.vc_encode_flow.proofs.SharedBytesAreDefined.{sharing_flow}
+use Rattle.vc_flow.proofs.Results.{on_ok, no_fault, same_error}
 use Rattle.vc_encode_flow.proofs.sharing.next_source.Goals as goal
 
 pub returns-then-at-lt-BUFFERS-clause-shares : goal.returns-then-at-lt-BUFFERS-clause-shares
@@ -14,7 +14,10 @@ pub returns-in-Ok-clause-shares : goal.returns-in-Ok-clause-shares
 returns-in-Ok-clause-shares g c = λ start format number queued h.
     let one : c.args.at - 4 + 1 ≡ c.args.at + 1 - 4 = omega (arith, c.if-at-lt-BUFFERS.false) in
     let t = c.in-Ok.ensures.shares start format number queued (c.args.at - 4) h in
-    let more : IsFlow start (sharing_flow format number queued t.frames) (g.P.PayloadPort.events c.take_source.new.port) → IsSharing start format number queued (c.args.at + 1 - 4) c.tally_frame.new.tally (g.P.PayloadPort.events c.take_source.new.port) = λ w. subst (λ n. IsSharing start format number queued n c.tally_frame.new.tally (g.P.PayloadPort.events c.take_source.new.port)) one (record { frames = t.frames; count = t.count; flow = w; tallied = t.tallied }) in
+    let more : IsFlow start (sharing_flow format number queued t.frames) (g.P.PayloadPort.events c.take_source.new.port) →
+    IsSharing start format number queued (c.args.at + 1 - 4) c.tally_frame.new.tally (g.P.PayloadPort.events c.take_source.new.port) = λ w. subst
+    (λ n. IsSharing start format number queued n c.tally_frame.new.tally (g.P.PayloadPort.events c.take_source.new.port)) one
+    (record { frames = t.frames; count = t.count; flow = w; tallied = t.tallied }) in
     on_ok _ more (c.take_source.ensures.flow start (sharing_flow format number queued t.frames) t.flow)
 
 pub returns-in-Ok-clause-engine : goal.returns-in-Ok-clause-engine

@@ -1,5 +1,5 @@
-use Rattle.vc_encode_flow.proofs.Generated.{kept_raw}
-use Rattle.vc_encode_flow.proofs.Shared.{begun}
+use Rattle.vc_encode_flow.proofs.GeneratedPicturesAreRaw.{kept_raw}
+use Rattle.vc_encode_flow.proofs.SharedBytesAreDefined.{begun}
 use Rattle.vc_encode_flow.proofs.sharing.run_share.Goals as goal
 
 pub share_pictures-requires-clause-raw : goal.share_pictures-requires-clause-raw

@@ -1,8 +1,8 @@
 use Rattle.std.proofs.Common.{◌≡◌, ◌+◌, ◌-◌, ◌∙◌, arith, subst, sym, ap, refl}
 use Rattle.vc_encode_flow.specs.Shares.{IsSharing}
 use Rattle.vc_encode_flow.specs.declared.tallying.Tally.{Tally}
-use Rattle.vc_encode_flow.proofs.Shared.{fed}
-use Rattle.vc_encode_flow.proofs.Going.{passed_on}
+use Rattle.vc_encode_flow.proofs.SharedBytesAreDefined.{fed}
+use Rattle.vc_flow.proofs.Results.{passed_on}
 use Rattle.vc_encode_flow.proofs.sharing.share_pictures.Goals as goal
 
 pub loop-at-init : goal.loop-at-init

@@ -1,7 +1,7 @@
 use Rattle.std.proofs.Common.{◌∷◌, [], ◌++◌}
 use Rattle.vc_encode_flow.specs.Frames.{joined}
-use Rattle.vc_encode_flow.proofs.Shared.{sharing_flow, tallied_more}
-use Rattle.vc_encode_flow.proofs.Stopping.{on_ok, no_fault, same_error}
+use Rattle.vc_encode_flow.proofs.SharedBytesAreDefined.{sharing_flow, tallied_more}
+use Rattle.vc_flow.proofs.Results.{on_ok, no_fault, same_error}
 use Rattle.vc_encode_flow.proofs.tallying.tally_frame.Goals as goal
 
 pub returns-in-Err-clause-engine : goal.returns-in-Err-clause-engine

@@ -1,4 +1,4 @@
-use Rattle.vc_port.proofs.Honesty.{calls_are_honest}
+use Rattle.vc_port.proofs.CallsAreHonest.{calls_are_honest}
 use Rattle.vc_port.proofs.laws.calls_are_honest.Goals as goal
 
 pub returns : goal.returns

@@ -1,4 +1,4 @@
-use Rattle.vc_port.proofs.Holding.{held_is_there}
+use Rattle.vc_port.proofs.HeldIsThere.{held_is_there}
 use Rattle.vc_port.proofs.laws.held_is_there.Goals as goal
 
 pub returns : goal.returns

@@ -1,4 +1,4 @@
-use Rattle.vc_port.proofs.Taking.{taken_is_handed_out}
+use Rattle.vc_port.proofs.TakenIsHandedOut.{taken_is_handed_out}
 use Rattle.vc_port.proofs.laws.taken_is_handed_out.Goals as goal
 
 pub returns : goal.returns

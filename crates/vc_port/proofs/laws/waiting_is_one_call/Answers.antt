@@ -1,4 +1,4 @@
-use Rattle.vc_port.proofs.Waiting.{waited_is_call}
+use Rattle.vc_port.proofs.WaitingIsOneCall.{waited_is_call}
 use Rattle.vc_port.proofs.laws.waiting_is_one_call.Goals as goal
 
 pub returns : goal.returns

@@ -1,5 +1,5 @@
-use Rattle.vc_context.specs.Payloads.{handed_over}
+use Rattle.vc_base.specs.Device.{call}
 use Rattle.vc_shared.proofs.calls.make_call.Given as goal
 
-abbrev pub ghosts-make_with : goal.ghosts-make_with
-ghosts-make_with g a = record { bytes = handed_over a.request.now a.hold.now }
+abbrev pub ghosts-note_call : goal.ghosts-note_call
+ghosts-note_call g a = record { event = call a.slot a.request.now g.B.HandedOver.bytes a.found }

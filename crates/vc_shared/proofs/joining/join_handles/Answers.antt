@@ -1,7 +1,7 @@
 use Rattle.std.proofs.Common.{◌≡◌, sym, ap, ◌∙◌, subst, arith, length}
 use Rattle.std.specs.Vec.Iter.{into_iter_items, into_iter_len}
 use Rattle.vc_turn.specs.Place.{Place}
-use Rattle.vc_shared.proofs.Together.{AreJoining, first_joining, next_joining, next_lock, all_joined}
+use Rattle.vc_shared.proofs.SeatsJoined.{AreJoining, first_joining, next_joining, next_lock, all_joined}
 use Rattle.vc_shared.proofs.joining.join_handles.Goals as goal
 
 pub loop-handle-init : goal.loop-handle-init
@@ -26,7 +26,8 @@ pub loop-handle-preserved : goal.loop-handle-preserved
 loop-handle-preserved c =
     let i = c.loop-handle.invariant in
     let s = c.in-Some-handle.ensures.steps in (
-      subst (λ (p : Place). AreJoining c.args.turn.now p c.args.handles.items (into_iter_items c.next-in-loop-handle.new.self)) (sym c.join.ensures) (next_joining c.args.turn.now c.args.handles.items _ _ c.in-Some-handle.handle c.loop-handle.first c.into_turn_seat.result i.0 s.0 c.into_turn_seat.ensures),
+      subst (λ (p : Place). AreJoining c.args.turn.now p c.args.handles.items (into_iter_items c.next-in-loop-handle.new.self)) (sym c.join.ensures)
+          (next_joining c.args.turn.now c.args.handles.items _ _ c.in-Some-handle.handle c.loop-handle.first c.into_turn_seat.result i.0 s.0 c.into_turn_seat.ensures),
       omega (arith, i.1, s.1, ap length s.0),
     )
 

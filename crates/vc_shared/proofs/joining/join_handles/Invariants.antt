@@ -1,6 +1,6 @@
 use Rattle.std.proofs.Common.{◌≡◌, length}
 use Rattle.std.specs.Vec.Iter.{into_iter_items, into_iter_len}
-use Rattle.vc_shared.proofs.Together.{AreJoining}
+use Rattle.vc_shared.proofs.SeatsJoined.{AreJoining}
 use Rattle.vc_shared.proofs.joining.join_handles.Given as goal
 
 abbrev pub invariant-loop-handle : goal.invariant-loop-handle

@@ -1,6 +1,6 @@
 use Rattle.std.proofs.Common.{◌≡◌, length}
 use Rattle.std.specs.Vec.Iter.{into_iter_items, into_iter_len}
-use Rattle.vc_shared.proofs.Together.{AreJoiningToo}
+use Rattle.vc_shared.proofs.SeatsJoined.{AreJoiningToo}
 use Rattle.vc_shared.proofs.joining.join_workers.Given as goal
 
 abbrev pub invariant-loop-worker : goal.invariant-loop-worker

@@ -3,7 +3,7 @@ use Rattle.std.specs.Vec.Iter.{into_iter_items}
 use Rattle.vc_turn.specs.Place.{Place}
 use Rattle.vc_shared.specs.Handles.{device_at, new_handle}
 use Rattle.vc_shared.specs.Workers.{new_worker}
-use Rattle.vc_shared.proofs.Dealing.{Dealt, next_is, slot_dealt, worker_dealt}
+use Rattle.vc_shared.proofs.SeatsDealtOut.{Dealt, next_is, slot_dealt, worker_dealt}
 use Rattle.vc_shared.proofs.shared.deal.Goals as goal
 
 pub loop-seat-preserved-then-number-sizes : goal.loop-seat-preserved-then-number-sizes

@@ -1,6 +1,6 @@
 use Rattle.std.proofs.Common.{◌≡◌, length, vec_len, vec_capacity}
 use Rattle.std.specs.Vec.Iter.{into_iter_items, into_iter_len}
-use Rattle.vc_shared.proofs.Dealing.{Dealt}
+use Rattle.vc_shared.proofs.SeatsDealtOut.{Dealt}
 use Rattle.vc_shared.proofs.shared.deal.Given as goal
 
 abbrev pub invariant-loop-seat : goal.invariant-loop-seat

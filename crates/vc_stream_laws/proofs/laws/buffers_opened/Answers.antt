@@ -1,4 +1,4 @@
-use Rattle.vc_stream_laws.proofs.Opening.{buffers_opened}
+use Rattle.vc_stream_laws.proofs.OpeningBeginsAStream.{buffers_opened}
 use Rattle.vc_stream_laws.proofs.laws.buffers_opened.Goals as goal
 
 pub returns : goal.returns

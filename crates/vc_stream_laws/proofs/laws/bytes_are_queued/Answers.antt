@@ -1,4 +1,4 @@
-use Rattle.vc_stream_laws.proofs.Asking.{bytes_are_queued}
+use Rattle.vc_stream_laws.proofs.CallsOfAClient.{bytes_are_queued}
 use Rattle.vc_stream_laws.proofs.laws.bytes_are_queued.Goals as goal
 
 pub returns : goal.returns

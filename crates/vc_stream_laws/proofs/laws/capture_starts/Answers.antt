@@ -1,4 +1,4 @@
-use Rattle.vc_stream_laws.proofs.Asking.{capture_starts}
+use Rattle.vc_stream_laws.proofs.CallsOfAClient.{capture_starts}
 use Rattle.vc_stream_laws.proofs.laws.capture_starts.Goals as goal
 
 pub returns : goal.returns

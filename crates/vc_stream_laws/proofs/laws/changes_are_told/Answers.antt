@@ -1,4 +1,4 @@
-use Rattle.vc_stream_laws.proofs.Asking.{changes_are_told}
+use Rattle.vc_stream_laws.proofs.CallsOfAClient.{changes_are_told}
 use Rattle.vc_stream_laws.proofs.laws.changes_are_told.Goals as goal
 
 pub returns : goal.returns

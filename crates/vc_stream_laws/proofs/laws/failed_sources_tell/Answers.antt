@@ -1,4 +1,4 @@
-use Rattle.vc_stream_laws.proofs.Asking.{failed_sources_tell}
+use Rattle.vc_stream_laws.proofs.CallsOfAClient.{failed_sources_tell}
 use Rattle.vc_stream_laws.proofs.laws.failed_sources_tell.Goals as goal
 
 pub returns : goal.returns

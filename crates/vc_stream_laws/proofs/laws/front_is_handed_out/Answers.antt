@@ -1,4 +1,4 @@
-use Rattle.vc_stream_laws.proofs.Ending.{front_is_handed_out}
+use Rattle.vc_stream_laws.proofs.HandedOutIsAPrefix.{front_is_handed_out}
 use Rattle.vc_stream_laws.proofs.laws.front_is_handed_out.Goals as goal
 
 pub returns : goal.returns

@@ -1,4 +1,4 @@
-use Rattle.vc_stream_laws.proofs.Jobs.{jobs_keep}
+use Rattle.vc_stream_laws.proofs.JobsKeepAStream.{jobs_keep}
 use Rattle.vc_stream_laws.proofs.laws.jobs_keep.Goals as goal
 
 pub returns : goal.returns

@@ -1,4 +1,4 @@
-use Rattle.vc_stream_laws.proofs.Opening.{limits_opened}
+use Rattle.vc_stream_laws.proofs.OpeningBeginsAStream.{limits_opened}
 use Rattle.vc_stream_laws.proofs.laws.limits_opened.Goals as goal
 
 pub returns : goal.returns

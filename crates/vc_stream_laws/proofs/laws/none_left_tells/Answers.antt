@@ -1,4 +1,4 @@
-use Rattle.vc_stream_laws.proofs.Asking.{none_left_tells}
+use Rattle.vc_stream_laws.proofs.CallsOfAClient.{none_left_tells}
 use Rattle.vc_stream_laws.proofs.laws.none_left_tells.Goals as goal
 
 pub returns : goal.returns

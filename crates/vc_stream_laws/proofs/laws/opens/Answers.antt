@@ -1,4 +1,4 @@
-use Rattle.vc_stream_laws.proofs.Opening.{opens}
+use Rattle.vc_stream_laws.proofs.OpeningBeginsAStream.{opens}
 use Rattle.vc_stream_laws.proofs.laws.opens.Goals as goal
 
 pub returns : goal.returns

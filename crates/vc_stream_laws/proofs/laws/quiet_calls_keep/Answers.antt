@@ -1,4 +1,4 @@
-use Rattle.vc_stream_laws.proofs.Asking.{quiet_calls_keep}
+use Rattle.vc_stream_laws.proofs.CallsOfAClient.{quiet_calls_keep}
 use Rattle.vc_stream_laws.proofs.laws.quiet_calls_keep.Goals as goal
 
 pub returns : goal.returns

@@ -1,4 +1,4 @@
-use Rattle.vc_stream_laws.proofs.Asking.{stops_are_told}
+use Rattle.vc_stream_laws.proofs.CallsOfAClient.{stops_are_told}
 use Rattle.vc_stream_laws.proofs.laws.stops_are_told.Goals as goal
 
 pub returns : goal.returns

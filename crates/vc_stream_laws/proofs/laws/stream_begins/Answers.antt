@@ -1,4 +1,4 @@
-use Rattle.vc_stream_laws.proofs.Opening.{stream_begins}
+use Rattle.vc_stream_laws.proofs.OpeningBeginsAStream.{stream_begins}
 use Rattle.vc_stream_laws.proofs.laws.stream_begins.Goals as goal
 
 pub returns : goal.returns

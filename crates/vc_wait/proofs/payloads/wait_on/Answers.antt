@@ -1,4 +1,4 @@
-use Rattle.vc_port.proofs.Waiting.{waited_is_call}
+use Rattle.vc_port.proofs.WaitingIsOneCall.{waited_is_call}
 use Rattle.vc_wait.proofs.payloads.wait_on.Goals as goal
 
 pub returns-clause-does : goal.returns-clause-does

@@ -1,4 +1,4 @@
-use Rattle.vc_port.proofs.Waiting.{waits_more}
+use Rattle.vc_port.proofs.WaitingIsOneCall.{waits_more}
 use Rattle.vc_wait.proofs.waits.answer_wait.Goals as goal
 
 pub loop-preserved : goal.loop-preserved

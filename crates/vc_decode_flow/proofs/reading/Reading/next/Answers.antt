@@ -1,10 +1,10 @@
 use Rattle.std.proofs.Common.{arith, ◌≤◌, ◌^◌}
-use Rattle.vc_decode_flow.proofs.Consuming.{is_long, read_next}
+use Rattle.vc_decode_flow.proofs.PiecesAreRead.{is_long, read_next}
 use Rattle.vc_decode_flow.proofs.reading.Reading.next.Goals as goal
 
-pub returns-then-count-ge-MAX_INPUT-clause-long : goal.returns-then-count-ge-MAX_INPUT-clause-long
-returns-then-count-ge-MAX_INPUT-clause-long g c = λ left bytes r e.
-    let most = c.if-count-ge-MAX_INPUT.true in
+pub returns-then-count-ge-MOST_INPUT-clause-long : goal.returns-then-count-ge-MOST_INPUT-clause-long
+returns-then-count-ge-MOST_INPUT-clause-long g c = λ left bytes r e.
+    let most = c.if-count-ge-MOST_INPUT.true in
     let count = c.count.ensures.count in
     is_long left _ _ _ bytes r (omega (arith, most, count))
 

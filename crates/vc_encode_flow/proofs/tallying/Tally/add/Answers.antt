@@ -1,5 +1,5 @@
 use Rattle.std.proofs.Common.{refl}
-use Rattle.vc_encode_flow.proofs.Shared.{tally_more}
+use Rattle.vc_encode_flow.proofs.SharedBytesAreDefined.{tally_more}
 use Rattle.vc_encode_flow.proofs.tallying.Tally.add.Goals as goal
 
 pub returns-clause-more : goal.returns-clause-more

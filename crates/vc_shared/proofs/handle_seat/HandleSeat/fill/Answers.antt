@@ -1,7 +1,7 @@
 use Rattle.std.proofs.Common.{sym, subst}
 use Rattle.vc_queue.specs.Holds.{HasRoom, held_payload}
 use Rattle.vc_shared.specs.Handles.{HandleState, IsSlotSeat}
-use Rattle.vc_shared.proofs.Writing.{fits_written}
+use Rattle.vc_shared.proofs.WritingKeepsSizes.{fits_written}
 use Rattle.vc_shared.proofs.handle_seat.HandleSeat.fill.Goals as goal
 
 pub invariant_of-self : goal.invariant_of-self

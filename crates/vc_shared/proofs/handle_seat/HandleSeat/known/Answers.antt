@@ -1,6 +1,6 @@
 use Rattle.std.proofs.Common.{subst}
 use Rattle.vc_shared.specs.Handles.{HandleState, IsHandle}
-use Rattle.vc_shared.proofs.Resting.{is_handle}
+use Rattle.vc_shared.proofs.SeatsAfterTurns.{is_handle}
 use Rattle.vc_shared.proofs.handle_seat.HandleSeat.known.Goals as goal
 
 pub returns : goal.returns

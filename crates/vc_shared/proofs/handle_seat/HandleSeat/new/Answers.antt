@@ -3,8 +3,8 @@ use Rattle.vc_model.specs.Devices.{slot_of}
 use Rattle.vc_turn.specs.Place.{Place}
 use Rattle.vc_context.specs.Payloads.{FitsSlot}
 use Rattle.vc_shared.specs.Histories.{after, events_of}
-use Rattle.vc_shared.proofs.Resting.{rests_at_first}
-use Rattle.vc_shared.proofs.Writing.{fits_first}
+use Rattle.vc_shared.proofs.SeatsAfterTurns.{rests_at_first}
+use Rattle.vc_shared.proofs.WritingKeepsSizes.{fits_first}
 use Rattle.vc_shared.proofs.handle_seat.HandleSeat.new.Goals as goal
 
 pub invariant_of-result : goal.invariant_of-result

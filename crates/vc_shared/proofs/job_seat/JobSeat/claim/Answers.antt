@@ -4,12 +4,12 @@ use Rattle.vc_port.specs.declared.station.Claimed.{Claimed}
 use Rattle.vc_shared.specs.Histories.{StandsForLog}
 use Rattle.vc_shared.specs.Following.{WorkerFollows}
 use Rattle.vc_shared.specs.Handles.{seat_of}
-use Rattle.vc_shared.proofs.Growing.{adds_grow}
+use Rattle.vc_shared.proofs.KnowledgeGrows.{adds_grow}
 use Rattle.vc_shared.specs.Workers.{WorkerState, worker_at, slot_had, IsWorkerSeat}
 use Rattle.vc_shared.specs.Claims.{IsClaim, ClaimsJob, ClaimsNone}
-use Rattle.vc_shared.proofs.Resting.{in_turn, ended_is, looked_is, seen_after}
-use Rattle.vc_shared.proofs.Answering.{few_steps}
-use Rattle.vc_shared.proofs.Working.{free_in_core, claim_made, claim_empty, nothing_is}
+use Rattle.vc_shared.proofs.SeatsAfterTurns.{in_turn, ended_is, looked_is, seen_after}
+use Rattle.vc_shared.proofs.CallsByHandle.{few_steps}
+use Rattle.vc_shared.proofs.ClaimsByWorker.{free_in_core, claim_made, claim_empty, nothing_is}
 use Rattle.vc_shared.proofs.job_seat.JobSeat.claim.Goals as goal
 
 pub claim-requires-clause-free : goal.claim-requires-clause-free
@@ -53,7 +53,9 @@ returns-in-Some-clause-claimed g c =
     let t = in_turn _ _ s.seat c.enter-core.new.seat c.enter-core.result e.turn e.seen e.own e.core in
     let idle = subst (λ (v : WorkerState). slot_had v ≡ None) (sym c.self.view_is) c.requires.free in
     let made = claim_made s.seat s.sizes s.worker c.enter-core.new.seat.ticket c.enter-core.new.seat.seen c.enter-core.result c.claim.new.self c.in-Some.job s.over false c.self.invariant idle t r.step c.in-Some.ensures.job r.size r.crew in
-    subst (λ (v : WorkerState). ClaimsJob v (worker_at c.put.new.seat s.sizes s.worker false) c.in-Some.job) c.self.view_is (subst (λ q. ClaimsJob (worker_at s.seat s.sizes s.worker s.over) (worker_at q s.sizes s.worker false) c.in-Some.job) (sym (ended_is s.seat c.enter-core.new.seat c.note_claim.new.seat c.put.new.seat (claim s.worker) e.turn c.note_claim.ensures.noted c.put.ensures)) made.claims)
+    subst (λ (v : WorkerState). ClaimsJob v (worker_at c.put.new.seat s.sizes s.worker false) c.in-Some.job) c.self.view_is (subst
+    (λ q. ClaimsJob (worker_at s.seat s.sizes s.worker s.over) (worker_at q s.sizes s.worker false) c.in-Some.job)
+    (sym (ended_is s.seat c.enter-core.new.seat c.note_claim.new.seat c.put.new.seat (claim s.worker) e.turn c.note_claim.ensures.noted c.put.ensures)) made.claims)
 
 pub returns-in-None-clause-claimed : goal.returns-in-None-clause-claimed
 returns-in-None-clause-claimed g c =
@@ -77,4 +79,7 @@ returns-in-Some-clause-follows g c =
     let idle = subst (λ (v : WorkerState). slot_had v ≡ None) (sym c.self.view_is) c.requires.free in
     let made = claim_made s.seat s.sizes s.worker c.enter-core.new.seat.ticket c.enter-core.new.seat.seen c.enter-core.result c.claim.new.self c.in-Some.job s.over false c.self.invariant idle t r.step c.in-Some.ensures.job r.size r.crew in
     let grows = adds_grow (seat_of s.seat) _ (claim s.worker) made.claims.claimed.adds in
-    subst (λ (v : WorkerState). WorkerFollows v (worker_at c.put.new.seat s.sizes s.worker false)) c.self.view_is (subst (λ q. WorkerFollows (worker_at s.seat s.sizes s.worker s.over) (worker_at q s.sizes s.worker false)) (sym (ended_is s.seat c.enter-core.new.seat c.note_claim.new.seat c.put.new.seat (claim s.worker) e.turn c.note_claim.ensures.noted c.put.ensures)) (record { device = refl; worker = refl; knows = grows }))
+    subst (λ (v : WorkerState). WorkerFollows v (worker_at c.put.new.seat s.sizes s.worker false)) c.self.view_is (subst
+    (λ q. WorkerFollows (worker_at s.seat s.sizes s.worker s.over) (worker_at q s.sizes s.worker false))
+    (sym (ended_is s.seat c.enter-core.new.seat c.note_claim.new.seat c.put.new.seat (claim s.worker) e.turn c.note_claim.ensures.noted c.put.ensures))
+    (record { device = refl; worker = refl; knows = grows }))

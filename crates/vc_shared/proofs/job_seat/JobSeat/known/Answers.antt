@@ -1,6 +1,6 @@
 use Rattle.std.proofs.Common.{subst}
 use Rattle.vc_shared.specs.Workers.{WorkerState, IsWorker}
-use Rattle.vc_shared.proofs.Working.{is_worker}
+use Rattle.vc_shared.proofs.ClaimsByWorker.{is_worker}
 use Rattle.vc_shared.proofs.job_seat.JobSeat.known.Goals as goal
 
 pub returns : goal.returns

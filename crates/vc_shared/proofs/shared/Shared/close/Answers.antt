@@ -2,7 +2,7 @@ use Rattle.std.proofs.Common.{◌≡◌, ◌∙◌, arith, length, vec_len, leng
 use Rattle.std.proofs.lemmas.List.{length-map}
 use Rattle.vc_shared.specs.Handles.{HandleState, device_at}
 use Rattle.vc_shared.specs.Workers.{WorkerState}
-use Rattle.vc_shared.proofs.Together.{seats_of, seats_of_workers, keeps_all, is_closed}
+use Rattle.vc_shared.proofs.SeatsJoined.{seats_of, seats_of_workers, keeps_all, is_closed}
 use Rattle.vc_shared.proofs.shared.Shared.close.Goals as goal
 
 pub close-core-requires-clause-whole : goal.close-core-requires-clause-whole

@@ -1,4 +1,4 @@
-use Rattle.vc_shared.proofs.Dealing.{first_stands}
+use Rattle.vc_shared.proofs.SeatsDealtOut.{first_stands}
 use Rattle.vc_shared.proofs.shared.Shared.make.Goals as goal
 
 pub make-requires-2-clause-value : goal.make-requires-2-clause-value

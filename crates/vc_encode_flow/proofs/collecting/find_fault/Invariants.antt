@@ -1,0 +1,10 @@
+use Rattle.vc_flow.specs.Calls.{KeepsHanded}
+use Rattle.vc_flow.specs.Faults.{GoesOn}
+use Rattle.vc_encode_flow.proofs.collecting.find_fault.Given as goal
+
+abbrev pub invariant-loop-source : goal.invariant-loop-source
+invariant-loop-source g l =
+    g.P.Port.ready l.port
+    × g.P.Port.follows l.initial.port l.port
+    × GoesOn (g.P.PayloadPort.events l.initial.port) (g.P.PayloadPort.events l.port)
+    × KeepsHanded (g.P.PayloadPort.events l.initial.port) (g.P.PayloadPort.events l.port)
