@@ -7,6 +7,7 @@ ghost use Rattle.vc_work.specs.Runs.{HasGeometry};
 use std::alloc::Global;
 use std::test::Fail;
 use vc_base::{Format, Fourcc};
+use vc_coder::TransformCoder;
 use vc_frame::encode_frame;
 use vc_fwht::FastTransform;
 use vc_raw::fill;
@@ -61,7 +62,8 @@ fn code_next(
     ensures same { HasGeometry (geometry_of (record { fourcc = yu12; width = 352; height = 288; size = 152064 })) reference.new.state.reference }
 {
     fill(picture, &FORMAT, number, 0);
-    let (length, _) = encode_frame(&FastTransform, picture, &FORMAT, &RATES, reference, frame);
+    let coder = TransformCoder(FastTransform);
+    let (length, _) = encode_frame(&coder, picture, &FORMAT, &RATES, reference, frame);
     let Some(bytes) = frame.get(..length) else {
         return Err(Fail::new("a frame is longer than its room"));
     };

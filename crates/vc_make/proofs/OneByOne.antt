@@ -28,7 +28,7 @@ one_more f w h number k =
     ∙ flat_map-append (raw_of f) (generated_pictures (record { width = w; height = h; layout = layout_of f }) k number) (generated (record { width = w; height = h; layout = layout_of f }) k number ∷ [])
     ∙ ap (λ z. flat_map (raw_of f) (generated_pictures (record { width = w; height = h; layout = layout_of f }) k number) ++ z) (append-nil (picture_of f w h number k))
 
--- fewer pictures are a front of more
+-- fewer pictures are a prefix of more
 some_more : (f : Fourcc) (w h number k m : ℕ) → (rest : List ℕ) × (make_output f w h (k + m) number ≡ make_output f w h k number ++ rest)
 some_more f w h number k zero =
     ([], ap (λ t. make_output f w h t number) (let e : k + 0 ≡ k = omega arith in e) ∙ sym (append-nil (make_output f w h k number)))
@@ -52,7 +52,7 @@ pub more_written : (f : Fourcc) (w h number k : ℕ) (old mid new : Option (List
 more_written f w h number k old mid new before here =
     subst (λ z. Appends old new z) (sym (one_more f w h number k)) (Appends-trans old mid new (make_output f w h k number) (picture_of f w h number k) before here)
 
--- a front of a picture after those before it is a front of all
+-- a prefix of a picture after those before it is a prefix of all
 pub front_written : (f : Fourcc) (w h number k count : ℕ) (old mid new : Option (List ℕ)) → k < count → Appends old mid (make_output f w h k number) →
     AppendsFront mid new (picture_of f w h number k) → AppendsFront old new (make_output f w h count number)
 front_written f w h number k count old mid new below before here =

@@ -44,7 +44,7 @@ fn write_picture<K: Sink>(
 /// Each is made in the same buffer and handed to the sink as one piece.
 ///
 /// The format is a raw one with a size that its pictures can have. There are at most 1,000,000 pictures, and the number
-/// is at most 1,000,063. After a failed write a front of the pictures was written, and nothing where memory was refused.
+/// is at most 1,000,063. After a failed write a prefix of the pictures was written, and nothing, out of memory.
 pub fn write_pictures<K: Sink>(
     alloc: Global,
     format: &Format,
@@ -55,8 +55,10 @@ pub fn write_pictures<K: Sink>(
     requires raw { IsRawFormat format.now }
     requires pictures { pictures ≤ 1000000 }
     requires number { number ≤ 1000063 }
-    ensures whole { OnOk result (Appends (K.written sink.old) (K.written sink.new) (make_output format.now.fourcc format.now.width format.now.height pictures number)) }
-    ensures front { OnErr result (AppendsFront (K.written sink.old) (K.written sink.new) (make_output format.now.fourcc format.now.width format.now.height pictures number)) }
+    ensures whole { OnOk result (Appends (K.written sink.old) (K.written sink.new)
+        (make_output format.now.fourcc format.now.width format.now.height pictures number)) }
+    ensures front { OnErr result (AppendsFront (K.written sink.old) (K.written sink.new)
+        (make_output format.now.fourcc format.now.width format.now.height pictures number)) }
     ensures memory { IsErrOf result MakeStop.NoMemory → sink.new ≡ sink.old }
     ensures write { IsErrOf result MakeStop.WriteFault → Rose (K.faults sink.old) (K.faults sink.new) }
     ensures later { K.faults sink.old ≤ K.faults sink.new }

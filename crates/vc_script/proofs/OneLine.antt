@@ -118,7 +118,9 @@ hex_stays [] = refl
 hex_stays (b ∷ rest) =
     let high : stays_on_line (get_or lower_digits (b / 16) 0) ≡ true = all_at stays_on_line lower_digits (b / 16) refl refl in
     let low : stays_on_line (get_or lower_digits (b % 16) 0) ≡ true = all_at stays_on_line lower_digits (b % 16) refl refl in
-    both (stays_on_line (get_or lower_digits (b / 16) 0)) (stays_on_line (get_or lower_digits (b % 16) 0) && list_all stays_on_line (encode_with lower_digits rest)) high (both (stays_on_line (get_or lower_digits (b % 16) 0)) (list_all stays_on_line (encode_with lower_digits rest)) low (hex_stays rest))
+    both (stays_on_line (get_or lower_digits (b / 16) 0))
+    (stays_on_line (get_or lower_digits (b % 16) 0) && list_all stays_on_line (encode_with lower_digits rest)) high
+    (both (stays_on_line (get_or lower_digits (b % 16) 0)) (list_all stays_on_line (encode_with lower_digits rest)) low (hex_stays rest))
 
 payload_stays : (from_capture : Bool) (used : ℕ) (payload : List ℕ) → Stays (payload_text from_capture used payload)
 payload_stays false used payload = refl
@@ -253,4 +255,6 @@ pub want_told : (slot : ℕ) (call : Call) (reply : Reply) (payload other : List
 unfolding reply_text
 want_told slot call reply payload other e =
     let verb = verb_name (call_verb call) in
-    want_of_words call reply payload (same_front (decimal slot ++ (32 ∷ verb)) (spaced (answer_words call reply payload) ++ 10 ∷ []) (codes " ENOMEM\n") (sym (answer_behind slot verb (spaced (answer_words call reply payload))) ∙ e ∙ answer_behind slot verb (codes " ENOMEM")))
+    want_of_words call reply payload
+    (same_front (decimal slot ++ (32 ∷ verb)) (spaced (answer_words call reply payload) ++ 10 ∷ []) (codes " ENOMEM\n")
+    (sym (answer_behind slot verb (spaced (answer_words call reply payload))) ∙ e ∙ answer_behind slot verb (codes " ENOMEM")))

@@ -6,7 +6,7 @@ use denote.Ref.{Bor}
 use Rattle.vc_script.specs.declared.line.LineFault.{LineFault}
 use Rattle.vc_script.specs.declared.line.LineFault.TheVariants.{Bad, NoMemory}
 use Rattle.vc_script.specs.Words.{not_empty}
-use Rattle.vc_script.specs.Payload.{longest_payload}
+use Rattle.vc_base.specs.Limits.{longest_payload}
 
 -- the parts of what follows a separator, and none where none follows
 abbrev pub rest_of_parts : ℕ → Option (Bor (List ℕ)) → List (List ℕ)

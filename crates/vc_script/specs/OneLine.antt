@@ -44,6 +44,6 @@ NumbersAreWords = (slot : ℕ) → decimal slot ≡ [] → ⊥
 abbrev pub NumbersDiffer : Type 0
 NumbersDiffer = (slot other : ℕ) → slot < 2 ^ 64 → other < 2 ^ 64 → decimal slot ≡ decimal other → slot ≡ other
 
--- want of memory is told by a line of its own
+-- out of memory is told by a line of its own
 abbrev pub WantIsTold : Type 0
 WantIsTold = (slot : ℕ) (call : Call) (reply : Reply) (payload other : List ℕ) → reply_text slot call reply payload ≡ reply_text slot call (Refused NoMem) other → reply ≡ Refused NoMem

@@ -113,7 +113,10 @@ fn put_taken(
     payload: &[u8],
 ) -> Result<(), NoMemory>
     requires { IsTrue from_capture → buffer.1 ≤ length payload.now }
-    ensures { OnOk result (line.new.items ≡ line.old.items ++ spaced (codes "ok" ∷ decimal buffer.0 ∷ decimal buffer.1 ∷ flag_text buffer.2 ∷ decimal buffer.3 ∷ decimal buffer.4 ∷ payload_text from_capture buffer.1 payload.now ∷ [])) }
+    ensures { OnOk result (line.new.items ≡ line.old.items ++
+        spaced (codes "ok" ∷ decimal buffer.0 ∷ decimal buffer.1
+        ∷ flag_text buffer.2 ∷ decimal buffer.3 ∷ decimal buffer.4
+        ∷ payload_text from_capture buffer.1 payload.now ∷ [])) }
 {
     let (index, used, flags, seq, stamp) = buffer;
     put_value(alloc, line, index)?;
@@ -133,7 +136,8 @@ fn put_name(line: &mut Vec<u8>, fourcc: &Fourcc) -> Result<(), NoMemory>
 }
 
 fn put_format(alloc: Global, line: &mut Vec<u8>, format: &Format) -> Result<(), NoMemory>
-    ensures { OnOk result (line.new.items ≡ line.old.items ++ spaced (codes "ok" ∷ fourcc_text format.now.fourcc ∷ decimal format.now.width ∷ decimal format.now.height ∷ decimal format.now.size ∷ [])) }
+    ensures { OnOk result (line.new.items ≡ line.old.items ++
+        spaced (codes "ok" ∷ fourcc_text format.now.fourcc ∷ decimal format.now.width ∷ decimal format.now.height ∷ decimal format.now.size ∷ [])) }
 {
     put_name(line, &format.fourcc)?;
     put_number(alloc, line, u64::from(format.width))?;

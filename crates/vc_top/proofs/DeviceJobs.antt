@@ -14,10 +14,10 @@ use Rattle.vc_model.specs.JobList.{waits, ListIsExact}
 use Rattle.vc_model.specs.Seats.{WorkersAreApart}
 use Rattle.vc_model.specs.Sound.{IsSound, IsSoundSlot, HasItsBuffers}
 use Rattle.vc_model.specs.Standing.{job_in}
-use Rattle.vc_model.proofs.Isolating.{isolated, is_there}
-use Rattle.vc_model.proofs.Fitting.{always_sound}
-use Rattle.vc_model.proofs.Listing.{exact_list, front_waits}
-use Rattle.vc_model.proofs.Seating.{jobs_are_held}
+use Rattle.vc_model.proofs.SlotsAreIsolated.{isolated, is_there}
+use Rattle.vc_model.proofs.FormatsAndJobsFit.{always_sound}
+use Rattle.vc_model.proofs.JobListIsExact.{exact_list, front_waits}
+use Rattle.vc_model.proofs.HistoriesGrow.{jobs_are_held}
 use Rattle.vc_top.specs.Desks.{HasData}
 use Rattle.vc_top.proofs.KeepingJobs.{IsBusy, SameJob, KeepsJob, keeps, answer_keeps}
 
@@ -99,24 +99,34 @@ slot_job slots i k s j there e own true q =
 slot_job slots i k s j there e own false q =
     ap job_in (get_or-set_other slots i k s None (λ (z : k ≡ i). eqb-false i k q (sym z))) ∙ e
 
-call_keeps : (d : DeviceState) (worker k : ℕ) (j : JobData) (i : ℕ) (request : Call) (bytes : List ℕ) (found : Bool) → Known d → HasData d worker k j → (b : Bool) → ltb i (length d.slots) ≡ b → HasData (cond b (call_answered d i (answer (slot_of d i) request bytes found)) (ignored d)).device worker k j
+call_keeps :
+    (d : DeviceState) (worker k : ℕ) (j : JobData) (i : ℕ) (request : Call) (bytes : List ℕ) (found : Bool) → Known d → HasData d worker k j
+    → (b : Bool) → ltb i (length d.slots) ≡ b
+    → HasData (cond b (call_answered d i (answer (slot_of d i) request bytes found)) (ignored d)).device worker k j
 unfolding with_slot
 call_keeps d worker k j i request bytes found x h true l =
     record {
       of_slot = h.of_slot;
-      data_there = slot_job d.slots i k (answer (slot_of d i) request bytes found).slot j (ltb-true i (length d.slots) l) h.data_there (λ z. answered_job (slot_of d i) j request bytes found (x.sound i) (ap (λ y. job_in (slot_of d y)) z ∙ h.data_there)) (eqb i k) refl;
+      data_there =
+          slot_job d.slots i k (answer (slot_of d i) request bytes found).slot j (ltb-true i (length d.slots) l) h.data_there
+          (λ z. answered_job (slot_of d i) j request bytes found (x.sound i) (ap (λ y. job_in (slot_of d y)) z ∙ h.data_there)) (eqb i k) refl;
     }
 call_keeps d worker k j i request bytes found x h false l = h
 
 -- Claims by another worker
 
-front_keeps : (d : DeviceState) (worker other k i : ℕ) (rest : List ℕ) (j : JobData) → (worker ≡ other → ⊥) → HasData d worker k j → (s : Slot) → slot_of d i ≡ s → is_claimable s ≡ true → HasData (claim_slot (record d { waiting = rest }) other i s).device worker k j
+front_keeps :
+    (d : DeviceState) (worker other k i : ℕ) (rest : List ℕ) (j : JobData) → (worker ≡ other → ⊥) → HasData d worker k j → (s : Slot)
+    → slot_of d i ≡ s → is_claimable s ≡ true → HasData (claim_slot (record d { waiting = rest }) other i s).device worker k j
 unfolding with_slot
 front_keeps d worker other k i rest j differs h None e p = record { of_slot = h.of_slot; data_there = h.data_there }
 front_keeps d worker other k i rest j differs h (Some c) e p =
     record {
       of_slot = get_or-set_other d.workers other worker (Some i) None differs ∙ h.of_slot;
-      data_there = slot_job d.slots i k (Some (after_claim c)) j (is_there d.slots i c e) h.data_there (λ z. absurd (false≢true (sym (running_of (slot_of d i) j (ap (λ y. job_in (slot_of d y)) z ∙ h.data_there)) ∙ (ap is_claimable e ∙ p)))) (eqb i k) refl;
+      data_there =
+          slot_job d.slots i k (Some (after_claim c)) j (is_there d.slots i c e) h.data_there
+          (λ z. absurd (false≢true (sym (running_of (slot_of d i) j (ap (λ y. job_in (slot_of d y)) z ∙ h.data_there)) ∙ (ap is_claimable e ∙ p))))
+          (eqb i k) refl;
     }
 
 first_keeps : (d : DeviceState) (worker other k : ℕ) (waiting : List ℕ) (j : JobData) → (worker ≡ other → ⊥) → Known d → HasData d worker k j → d.waiting ≡ waiting → HasData (claim_first d other waiting).device worker k j
@@ -131,7 +141,9 @@ claim_keeps d worker other k j differs x h false b = h
 
 -- Finishes of another worker
 
-job_keeps : (coder : Coder) (d : DeviceState) (worker other k i : ℕ) (j : JobData) (c : Context) (fault : Bool) → (worker ≡ other → ⊥) → (i ≡ k → ⊥) → HasData d worker k j → slot_of d i ≡ Some c → (o : Option Running) → HasData (finish_job coder d other i c o fault).device worker k j
+job_keeps :
+    (coder : Coder) (d : DeviceState) (worker other k i : ℕ) (j : JobData) (c : Context) (fault : Bool) → (worker ≡ other → ⊥) → (i ≡ k → ⊥)
+    → HasData d worker k j → slot_of d i ≡ Some c → (o : Option Running) → HasData (finish_job coder d other i c o fault).device worker k j
 unfolding with_slot
 job_keeps coder d worker other k i j c fault differs apart h e None = h
 job_keeps coder d worker other k i j c fault differs apart h e (Some r) =
@@ -140,12 +152,16 @@ job_keeps coder d worker other k i j c fault differs apart h e (Some r) =
       data_there = slot_job d.slots i k (Some (after_finish coder c r fault)) j (is_there d.slots i c e) h.data_there (λ z. absurd (apart z)) (eqb i k) refl;
     }
 
-ended_keeps : (coder : Coder) (d : DeviceState) (worker other k i : ℕ) (j : JobData) (fault : Bool) → (worker ≡ other → ⊥) → (i ≡ k → ⊥) → HasData d worker k j → (s : Slot) → slot_of d i ≡ s → HasData (finish_slot coder d other i s fault).device worker k j
+ended_keeps :
+    (coder : Coder) (d : DeviceState) (worker other k i : ℕ) (j : JobData) (fault : Bool) → (worker ≡ other → ⊥) → (i ≡ k → ⊥) → HasData d worker k j
+    → (s : Slot) → slot_of d i ≡ s → HasData (finish_slot coder d other i s fault).device worker k j
 ended_keeps coder d worker other k i j fault differs apart h None e = h
 ended_keeps coder d worker other k i j fault differs apart h (Some c) e =
     job_keeps coder d worker other k i j c fault differs apart h e c.running
 
-finish_keeps : (coder : Coder) (d : DeviceState) (worker other k : ℕ) (j : JobData) (fault : Bool) → (worker ≡ other → ⊥) → Known d → HasData d worker k j → (o : Option ℕ) → job_of d other ≡ o → HasData (finish_of coder d other o fault).device worker k j
+finish_keeps :
+    (coder : Coder) (d : DeviceState) (worker other k : ℕ) (j : JobData) (fault : Bool) → (worker ≡ other → ⊥) → Known d → HasData d worker k j
+    → (o : Option ℕ) → job_of d other ≡ o → HasData (finish_of coder d other o fault).device worker k j
 finish_keeps coder d worker other k j fault differs x h None e = h
 finish_keeps coder d worker other k j fault differs x h (Some i) e =
     ended_keeps coder d worker other k i j fault differs (λ z. differs (x.apart.apart worker other k h.of_slot (e ∙ ap Some z))) h (slot_of d i) refl
@@ -167,7 +183,10 @@ step_keeps coder d worker k j (finish w fault) other x h =
     finish_keeps coder d worker w k j fault other x h (job_of d w) refl
 step_keeps coder d worker k j shut other x h = record { of_slot = h.of_slot; data_there = h.data_there }
 
-pub data_stays : (coder : Coder) (n : ℕ) (history : List DeviceEvent) (worker k : ℕ) (j : JobData) (e : DeviceEvent) → IsOther worker e → HasData (device_after coder (new_device n) history) worker k j → HasData (device_step coder (device_after coder (new_device n) history) e).device worker k j
+pub data_stays :
+    (coder : Coder) (n : ℕ) (history : List DeviceEvent) (worker k : ℕ) (j : JobData) (e : DeviceEvent) → IsOther worker e
+    → HasData (device_after coder (new_device n) history) worker k j
+    → HasData (device_step coder (device_after coder (new_device n) history) e).device worker k j
 data_stays coder n history worker k j e other h =
     step_keeps coder (device_after coder (new_device n) history) worker k j e other (known coder n history) h
 

@@ -6,15 +6,15 @@ use Rattle.vc_base.specs.Counts.{Rose}
 use Rattle.vc_crew.specs.Rising.{AreShared, RoseTogether}
 use Rattle.vc_worker.specs.Turns.{RoseBy}
 use Rattle.vc_io.specs.Written.{AppendsFront}
-use Rattle.vc_encode_flow.specs.declared.ends.FlowEnd.{FlowEnd}
-use Rattle.vc_encode_flow.specs.Endings.{IsLong}
-use Rattle.vc_encode_flow.specs.declared.ends.FlowEnd.TheVariants.{Whole, Damaged, ShortRaw, ReadFault, WriteFault, EngineFault, TooLong, NoMemory}
+use Rattle.vc_flow.specs.declared.ends.FlowEnd.{FlowEnd}
+use Rattle.vc_flow.specs.Inputs.{IsLong}
+use Rattle.vc_flow.specs.declared.ends.FlowEnd.TheVariants.{Whole, Damaged, ShortRaw, ReadFault, WriteFault, EngineFault, TooLong, NoMemory}
 use Rattle.vc_top.specs.declared.status.Status.{Status}
 use Rattle.vc_top.specs.declared.status.Status.TheVariants as statuses
 use Rattle.vc_top.specs.Engines.{OneRose}
 use Rattle.vc_top.specs.Flows.{status_of_flow}
 
--- A front of the output
+-- A prefix of the output
 
 take_front : (bytes more : List ℕ) → take (length bytes) (bytes ++ more) ≡ bytes
 take_front [] more = refl

@@ -13,11 +13,16 @@ use Rattle.vc_base.specs.declared.Call.{Call}
 use Rattle.vc_base.specs.declared.Call.TheVariants.{Open, Close, EnumFmt, GetFmt, TryFmt, SetFmt, ReqBufs, CreateBufs, QueryBuf, QBuf, DqBuf, StreamOn, StreamOff, Subscribe, Unsubscribe, DqEvent, DecCmd, EncCmd, GetCtrl, SetCtrl, Poll}
 use Rattle.vc_base.specs.declared.Reply.{Reply}
 use Rattle.vc_base.specs.declared.Reply.TheVariants.{Fmt, Count, Blocked}
-use Rattle.vc_base.specs.Buffers.{Buffer, QueueState, buffer_count, most_buffers, is_empty, with_index, held_refusal, queue_held, take_front, refuse_if, create_refusal, create_after, qbuf_after, dqbuf_after, dqbuf_refusal, reqbufs_after, streamon_refusal, streamon_after, long_enough}
+use Rattle.vc_base.specs.Buffers.{Buffer, QueueState, buffer_count, is_empty, with_index, held_refusal, queue_held, take_front, refuse_if, create_refusal}
+use Rattle.vc_base.specs.Buffers.{create_after, qbuf_after, dqbuf_after, dqbuf_refusal, reqbufs_after, streamon_refusal, streamon_after, long_enough}
+use Rattle.vc_base.specs.Limits.{most_buffers}
 use Rattle.vc_model.specs.Formats.{formats_for}
 use Rattle.vc_defs.specs.Encoder.{RunRates}
 use Rattle.vc_model.specs.Context.{Context, Slot, Running, drain, PhaseState, run, owe, queue_of, with_queue, format_of, is_dec, is_enc, is_run, is_drained, sizeimage, settle, settle_drain, settle_last}
-use Rattle.vc_model.specs.Answer.{Answer, unchanged, refused, answered, unless, if_found, unless_running, unless_or_block, desc_answer, set_answer, set_refusal, after_new_format, reqbufs_answer, after_new_buffers, query_answer, is_no_whole_picture, taken_answer, after_taking, stop_at_last, is_ended, both_stream, stop_answer, start_is_early, start_answer, command_answer, value_answer, control_answer, context_answer, answer}
+use Rattle.vc_model.specs.Answer.{Answer, unchanged, refused, answered, unless, if_found, unless_running, unless_or_block, desc_answer, set_answer, set_refusal}
+use Rattle.vc_model.specs.Answer.{after_new_format, reqbufs_answer, after_new_buffers, query_answer, is_no_whole_picture, taken_answer, after_taking}
+use Rattle.vc_model.specs.Answer.{stop_at_last, is_ended, both_stream, stop_answer, start_is_early, start_answer, command_answer, value_answer, control_answer}
+use Rattle.vc_model.specs.Answer.{context_answer, answer}
 use Rattle.vc_model.specs.Phases.{is_stopped_by_drain}
 
 -- A job runs, in phase Run. OUTPUT streams and has a buffer, and CAPTURE has none in the job where it doesn't stream.
@@ -50,7 +55,8 @@ not_drained false b d = refl
 busy_settled : (x : Context) (r : Running) → x.running ≡ Some r → x.phase ≡ run → settle x ≡ x
 unfolding settle
 busy_settled x r runs phase =
-    let e : (is_run x.phase && (x.cap.streams && (is_none x.running && is_drained x.out.ready x.mark))) ≡ false = ap (λ o. is_run x.phase && (x.cap.streams && (is_none o && is_drained x.out.ready x.mark))) runs ∙ not_drained (is_run x.phase) x.cap.streams (is_drained x.out.ready x.mark) in
+    let e : (is_run x.phase && (x.cap.streams && (is_none x.running && is_drained x.out.ready x.mark))) ≡ false =
+    ap (λ o. is_run x.phase && (x.cap.streams && (is_none o && is_drained x.out.ready x.mark))) runs ∙ not_drained (is_run x.phase) x.cap.streams (is_drained x.out.ready x.mark) in
     let s : settle_drain x ≡ x = ap (λ b. cond b (record x { phase = owe drain }) x) e in
     ap (λ y. settle_last y y.phase) s ∙ ap (settle_last x) phase
 
@@ -100,7 +106,9 @@ format_keeps c r Cap want b =
     other Enc = record { runs = refl; phase = refl; out = refl; cap = refl; codec = refl }
     other Dec = record { runs = refl; phase = refl; out = refl; cap = refl; codec = refl }
 
-cap_request : (c : Context) (r : Running) (count : ℕ) (found : Bool) → IsBusy c r → (t : Bool) → c.cap.streams ≡ t → (reply : Reply) → KeepsJob c (unless c (refuse_if t Busy None) (if_found c found (answered (after_new_buffers c.kind Cap (record c { cap = reqbufs_after c.cap count (sizeimage c Cap) })) reply))).slot
+cap_request :
+    (c : Context) (r : Running) (count : ℕ) (found : Bool) → IsBusy c r → (t : Bool) → c.cap.streams ≡ t → (reply : Reply)
+    → KeepsJob c (unless c (refuse_if t Busy None) (if_found c found (answered (after_new_buffers c.kind Cap (record c { cap = reqbufs_after c.cap count (sizeimage c Cap) })) reply))).slot
 cap_request c r count found b true e reply = same c
 cap_request c r count found b false e reply =
     found_keeps c found _ (settled c _ r b (fresh c.kind))
@@ -163,7 +171,13 @@ command_keeps : (c : Context) (r : Running) (cmd : ℕ) → IsBusy c r → Keeps
 command_keeps c r cmd b =
     let started : SameJob c (record c { phase = run }) = record { runs = refl; phase = sym b.phase; out = refl; cap = refl; codec = refl } in
     let marked : SameJob c (record c { mark = Some c.out.next_ordinal }) = record { runs = refl; phase = refl; out = refl; cap = refl; codec = refl } in
-    either_keeps c (cmd == 0) (start_answer c) (cond (cmd == 1) (stop_answer c) (refused c Inval)) (either_keeps c (not (both_stream c)) _ _ (same c) (either_keeps c (start_is_early c.phase c.mark) _ _ (same c) (either_keeps c (not (long_enough c.cap (sizeimage c Cap))) _ _ (same c) (settled c (record c { phase = run }) r b started)))) (either_keeps c (cmd == 1) (stop_answer c) (refused c Inval) (either_keeps c (not (both_stream c)) _ _ (same c) (either_keeps c (is_some c.mark) _ _ (same c) (either_keeps c (is_stopped_by_drain c.phase) _ _ (same c) (settled c (record c { mark = Some c.out.next_ordinal }) r b marked)))) (same c))
+    either_keeps c (cmd == 0) (start_answer c) (cond (cmd == 1) (stop_answer c) (refused c Inval))
+    (either_keeps c (not (both_stream c)) _ _ (same c)
+    (either_keeps c (start_is_early c.phase c.mark) _ _ (same c) (either_keeps c (not (long_enough c.cap (sizeimage c Cap))) _ _ (same c) (settled c (record c { phase = run }) r b started))))
+    (either_keeps c (cmd == 1) (stop_answer c) (refused c Inval)
+    (either_keeps c (not (both_stream c)) _ _ (same c)
+    (either_keeps c (is_some c.mark) _ _ (same c) (either_keeps c (is_stopped_by_drain c.phase) _ _ (same c) (settled c (record c { mark = Some c.out.next_ordinal }) r b marked))))
+    (same c))
 
 busy_answer : (c : Context) (r : Running) (a : Answer) → IsBusy c r → KeepsJob c (unless_running c a).slot
 busy_answer c r a b = subst (λ o. KeepsJob c (cond (is_none o) a (unchanged c Blocked)).slot) (sym b.runs) (same c)
@@ -178,10 +192,14 @@ row_keeps c r (TryFmt side want) bytes found b = same c
 row_keeps c r (SetFmt side want) bytes found b = format_keeps c r side want b
 row_keeps c r (ReqBufs side count) bytes found b = request_keeps c r side count found b
 row_keeps c r (CreateBufs side count length) bytes found b =
-    unless_keeps c (create_refusal (queue_of c side) count length) _ (found_keeps c found _ (settled c (with_queue c side (create_after (queue_of c side) count length)) r b (queue_same c side (create_after (queue_of c side) count length) refl)))
+    unless_keeps c (create_refusal (queue_of c side) count length) _
+    (found_keeps c found _ (settled c (with_queue c side (create_after (queue_of c side) count length)) r b (queue_same c side (create_after (queue_of c side) count length) refl)))
 row_keeps c r (QueryBuf side index) bytes found b = query_keeps c _
 row_keeps c r (QBuf side index used stamp) bytes found b =
-    unless_keeps c (held_refusal (queue_of c side).side (with_index index (queue_of c side).held) used (sizeimage c side)) _ (unless_keeps c (refuse_if (is_no_whole_picture c side used) Inval None) _ (settled c (with_queue c side (qbuf_after (queue_of c side) index used stamp bytes)) r b (queue_same c side (qbuf_after (queue_of c side) index used stamp bytes) (held_job (queue_of c side) index (with_index index (queue_of c side).held) used stamp bytes))))
+    unless_keeps c (held_refusal (queue_of c side).side (with_index index (queue_of c side).held) used (sizeimage c side)) _
+    (unless_keeps c (refuse_if (is_no_whole_picture c side used) Inval None) _
+    (settled c (with_queue c side (qbuf_after (queue_of c side) index used stamp bytes)) r b
+    (queue_same c side (qbuf_after (queue_of c side) index used stamp bytes) (held_job (queue_of c side) index (with_index index (queue_of c side).held) used stamp bytes))))
 row_keeps c r (DqBuf side block) bytes found b =
     block_keeps c (dqbuf_refusal (queue_of c side) (is_ended c side)) block _ (taken_keeps c r side (queue_of c side).done b)
 row_keeps c r (StreamOn side) bytes found b =

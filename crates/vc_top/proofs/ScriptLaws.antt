@@ -15,16 +15,17 @@ use Rattle.vc_model.specs.Solo.{SoloEntry, Finished}
 use Rattle.vc_model.specs.Devices.{DeviceState, DeviceReply, Told, NoJob, Empty, new_device, slot_of, job_of, finish_of, finish_slot, finish_job, device_step, device_after, device_run, told_entries, all_entries}
 use Rattle.vc_model.specs.Handed.{same_bool, finishes_by_fault}
 use Rattle.vc_model.specs.Standing.{job_in, job_in_slot}
-use Rattle.vc_model.specs.Script.{ReplyText, Asked, AsksNothing, AsksCall, AsksClaim, AsksFinish, AsksRun, IsAsked, AreAsked, most_slots, found_in, fault_in, run_events, line_events, printed_by, script_events, events_of_script}
-use Rattle.vc_model.proofs.Honest.{scripts_are_honest}
-use Rattle.vc_model.proofs.Printing.{Comes, comes_next, comes_after, finishes_are_printed}
-use Rattle.vc_model.proofs.LineByLine.{comes_held, claim_one}
+use Rattle.vc_model.specs.Script.{ReplyText, Asked, AsksNothing, AsksCall, AsksClaim, AsksFinish, AsksRun, IsAsked, AreAsked, found_in, fault_in, run_events, line_events, printed_by, script_events, events_of_script}
+use Rattle.vc_base.specs.Limits.{most_slots}
+use Rattle.vc_model.proofs.ScriptsAreHonest.{scripts_are_honest}
+use Rattle.vc_model.proofs.EachSlotPrintsItsOwn.{Comes, comes_next, comes_after, finishes_are_printed}
+use Rattle.vc_model.proofs.LinesArePrinted.{comes_held, claim_one}
 use Rattle.vc_top.specs.Asking.{asked_of, asks_line, asks_lines, with_rest}
 use Rattle.vc_top.specs.Carries.{finishes}
 use Rattle.vc_top.specs.Slots.{LinesAsk, ScriptIsHonest, FinishLinesAreCounted, TextsAreOne}
-use Rattle.vc_top.proofs.Grammar.{asked_line}
-use Rattle.vc_top.proofs.OwnLines.{line_texts}
-use Rattle.vc_top.proofs.SoFar.{finishes_both}
+use Rattle.vc_top.proofs.LinesCanBeAsked.{asked_line}
+use Rattle.vc_top.proofs.AnswersAreLines.{line_texts}
+use Rattle.vc_top.proofs.LinesCarriedOut.{finishes_both}
 
 -- What is asked for
 
@@ -90,7 +91,9 @@ one_counted e true = refl
 one_counted e false = refl
 
 -- what a finish by a worker that has a job is told
-ended : (coder : Coder) (d : DeviceState) (worker j : ℕ) (c : Context) (fault : Bool) (info : JobData) (o : Option Running) → option_map (job_data c) o ≡ Some info → (word : List ℕ) × ((finish_job coder d worker j c o fault).reply ≡ Told j (Finished word))
+ended :
+    (coder : Coder) (d : DeviceState) (worker j : ℕ) (c : Context) (fault : Bool) (info : JobData) (o : Option Running)
+    → option_map (job_data c) o ≡ Some info → (word : List ℕ) × ((finish_job coder d worker j c o fault).reply ≡ Told j (Finished word))
 ended coder d worker j c fault info None e = absurd (cc)
 ended coder d worker j c fault info (Some r) e = (finish_word coder (job_data c r) fault, refl)
 
@@ -123,7 +126,10 @@ finish_lines_of fault coder n d worker given c true e = tt
 finish_lines_of fault coder n d worker given c false e =
     let j = some_job (job_of d worker) e in (finish_told fault coder n d worker j.0 given c j.1, tt)
 
-run_lines : (fault : Bool) (t : ReplyText) (coder : Coder) (n : ℕ) (d : DeviceState) (worker : ℕ) (given : Bool) → n ≤ most_slots → worker < 64 → Comes coder n d → (b nobody : Bool) → is_none (job_of d worker) ≡ b → is_empty d.waiting ≡ nobody → AllTold fault coder d (run_events worker b nobody given)
+run_lines :
+    (fault : Bool) (t : ReplyText) (coder : Coder) (n : ℕ) (d : DeviceState) (worker : ℕ) (given : Bool) → n ≤ most_slots → worker < 64
+    → Comes coder n d → (b nobody : Bool) → is_none (job_of d worker) ≡ b → is_empty d.waiting ≡ nobody
+    → AllTold fault coder d (run_events worker b nobody given)
 run_lines fault t coder n d worker given m h c true true e f =
     (claim_told fault worker (device_step coder d (claim worker)).reply, tt)
 run_lines fault t coder n d worker given m h c true false e f =
@@ -141,7 +147,9 @@ line_told fault t coder n d (AsksFinish worker) text m a c =
 line_told fault t coder n d (AsksRun worker) text m a c =
     run_lines fault t coder n d worker (fault_in text) m (omega arith) c (is_none (job_of d worker)) (is_empty d.waiting) refl refl
 
-script_told : (fault : Bool) (t : ReplyText) (coder : Coder) (n : ℕ) (d : DeviceState) (lines : List Asked) (output : List ℕ) → n ≤ most_slots → AreAsked n lines → Comes coder n d → AllTold fault coder d (script_events t coder d lines output)
+script_told :
+    (fault : Bool) (t : ReplyText) (coder : Coder) (n : ℕ) (d : DeviceState) (lines : List Asked) (output : List ℕ) → n ≤ most_slots
+    → AreAsked n lines → Comes coder n d → AllTold fault coder d (script_events t coder d lines output)
 script_told fault t coder n d [] output m a c = tt
 script_told fault t coder n d (asked ∷ rest) output m a c =
     let text = printed_by d asked output in

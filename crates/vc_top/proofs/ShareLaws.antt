@@ -8,13 +8,14 @@ use Rattle.vc_base.specs.declared.Fourcc.{Fourcc}
 use Rattle.vc_base.specs.declared.Format.{Format}
 use Rattle.vc_defs.specs.Raw.{yu12, same_fourcc}
 use Rattle.vc_defs.specs.Outputs.{share_line, share_output, shared_bytes}
-use Rattle.vc_encode_flow.proofs.Shared.{shared_in_yu12}
+use Rattle.vc_encode_flow.proofs.SharedBytesAreDefined.{shared_in_yu12}
 use Rattle.vc_words.specs.declared.command.Command.{Command}
 use Rattle.vc_words.specs.declared.command.Command.TheVariants.{Script, Encode, Decode, Make, Share, Transcode, Audit, Wire}
 use Rattle.vc_words.specs.declared.command.ShareOptions.{ShareOptions}
 use Rattle.vc_words.specs.Options.{number_for}
 use Rattle.vc_words.specs.Formats.{width_option, height_option, encoder_format, is_as_asked, sized_format}
-use Rattle.vc_words.specs.Commands.{contexts_option, shared_pictures_option, number_option, workers_option, script_options, encode_options, decode_options, make_options, share_options, transcode_options, audit_options, wire_options, command_of}
+use Rattle.vc_words.specs.Commands.{contexts_option, shared_pictures_option, number_option, workers_option, script_options, encode_options, decode_options}
+use Rattle.vc_words.specs.Commands.{make_options, share_options, transcode_options, audit_options, wire_options, command_of}
 use Rattle.vc_top.specs.Shares.{context_line, share_lines, ShareLinesAreDefined}
 use Rattle.vc_top.specs.Words.{is_built_command, only_built_command, asked_command}
 use Rattle.vc_top.proofs.Meanings.{AllSome, all_bind, any, every, all_map, all_cond, one, nothing, where_some}
@@ -41,7 +42,8 @@ kept_split format width height false e = nothing InYu12
 
 sized : (options : List (List ℕ)) → AllSome InYu12 (sized_format yu12 options)
 sized options =
-    all_bind (λ (a : ℕ). Unit {0}) InYu12 _ (number_for width_option options) (any _) (λ width u. all_bind (λ (a : ℕ). Unit {0}) InYu12 _ (number_for height_option options) (any _) (λ height u2. kept_split (encoder_format yu12 width height) width height _ refl))
+    all_bind (λ (a : ℕ). Unit {0}) InYu12 _ (number_for width_option options) (any _)
+    (λ width u. all_bind (λ (a : ℕ). Unit {0}) InYu12 _ (number_for height_option options) (any _) (λ height u2. kept_split (encoder_format yu12 width height) width height _ refl))
 
 abbrev SharesYu12 : ShareOptions → Type 0
 SharesYu12 options = options.format.fourcc ≡ yu12
@@ -89,7 +91,10 @@ same_lines f g (k ∷ ks) e =
 defined : (options : ShareOptions) → SharesYu12 options → share_lines options ≡ share_output options.contexts options.format.width options.format.height options.pictures options.number
 unfolding share_lines share_output
 defined options e =
-    same_lines (context_line options) (λ (k : ℕ). share_line k options.pictures (shared_bytes options.format.width options.format.height options.pictures (options.number + k))) (range_with_len 0 options.contexts) (λ k. ap (share_line k options.pictures) (shared_in_yu12 options.format options.pictures (options.number + k) e))
+    same_lines (context_line options)
+    (λ (k : ℕ). share_line k options.pictures (shared_bytes options.format.width options.format.height options.pictures (options.number + k)))
+    (range_with_len 0 options.contexts)
+    (λ k. ap (share_line k options.pictures) (shared_in_yu12 options.format options.pictures (options.number + k) e))
 
 pub share_lines_are_defined : ShareLinesAreDefined
 share_lines_are_defined words options e =

@@ -3,7 +3,7 @@ use Rattle.std.specs.Prelude.{ℕ, ◌≡◌, ◌<◌, ◌^◌, ◌⊎◌, Bool,
 use Rattle.std.specs.Io.KnownBytes.{Appends, IsAtEnd}
 use Rattle.vc_base.specs.Counts.{Rose}
 use Rattle.vc_defs.specs.Outputs.{decode_output, is_damaged_input}
-use Rattle.vc_encode_flow.specs.Endings.{IsLong}
+use Rattle.vc_flow.specs.Inputs.{IsLong}
 use Rattle.vc_io.specs.Written.{AppendsFront}
 use Rattle.vc_top.specs.declared.status.Status.{Status}
 use Rattle.vc_top.specs.declared.status.Status.TheVariants.{Fine, Usage, ReadFault, WriteFault, BadLine, Damaged, ShortRaw, EngineFault, TooLong, NoMemory}
@@ -16,7 +16,7 @@ pub record AllDecoded (input : List ℕ) (damaged : Bool) (left old new : Option
   pub damage : is_damaged_input input ≡ damaged
   pub written : Appends old new (decode_output input)
 
--- All good pictures were written where the decoding ends well, and where the input is damaged, else a front of them. After
+-- All good pictures were written where the decoding ends well, and where the input is damaged, else a prefix of them. After
 -- TooLong 2^40 bytes of the input were read.
 abbrev pub DecodeEnds : List ℕ → Option (List ℕ) → Option (List ℕ) → Option (List ℕ) → Status → Type 0
 DecodeEnds input left old new Fine = AllDecoded input false left old new
@@ -34,9 +34,3 @@ DecodeEnds input left old new ShortRaw = ⊥
 pub record IsGoodStream (input : List ℕ) : Type 0 where
   pub sound : is_damaged_input input ≡ false
   pub short : length input < 2 ^ 40
-
--- Where the input is a good stream, and neither the source, the sink nor an engine counts a fault or stands at the end of its
--- count, the end is fine, but for want of memory.
-unfoldable pub DecodeCompletes : List ℕ → ℕ → ℕ → ℕ → ℕ → List ℕ → List ℕ → Status → Type 0
-DecodeCompletes input source_before source_now sink_before sink_now engines_before engines_now status =
-    IsGoodStream input → (Rose source_before source_now → ⊥) → (Rose sink_before sink_now → ⊥) → (OneRose engines_before engines_now → ⊥) → (status ≡ Fine) ⊎ (status ≡ NoMemory)

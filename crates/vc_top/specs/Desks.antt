@@ -91,13 +91,23 @@ pub record CallDone (n : ℕ) (history : List DeviceEvent) (slot : ℕ) (request
 -- What a claim came to, and its text: the worker has a job already, no slot waits, or the front slot was claimed.
 pub data ClaimDone (n : ℕ) (history : List DeviceEvent) (worker : ℕ) (desk : Desk) : Bool → List ℕ → Type 0 where
   was_busy : (k : ℕ) → job_of (after n history) worker ≡ Some k → IsDesk n history desk → ClaimDone n history worker desk false busy_text
-  was_empty : job_of (after n history) worker ≡ None → (after n history).waiting ≡ [] → (device_step the_coder (after n history) (claim worker)).reply ≡ NoJob → IsDesk n (history ++ claim worker ∷ []) desk → ClaimDone n history worker desk false no_claim_text
-  took : (k : ℕ) (rest : List ℕ) → job_of (after n history) worker ≡ None → (after n history).waiting ≡ k ∷ rest → (device_step the_coder (after n history) (claim worker)).reply ≡ Told k Claimed → IsDesk n (history ++ claim worker ∷ []) desk → job_of (after n (history ++ claim worker ∷ [])) worker ≡ Some k → ClaimDone n history worker desk true (claim_text k)
+  was_empty :
+      job_of (after n history) worker ≡ None → (after n history).waiting ≡ []
+      → (device_step the_coder (after n history) (claim worker)).reply ≡ NoJob → IsDesk n (history ++ claim worker ∷ []) desk
+      → ClaimDone n history worker desk false no_claim_text
+  took :
+      (k : ℕ) (rest : List ℕ) → job_of (after n history) worker ≡ None → (after n history).waiting ≡ k ∷ rest
+      → (device_step the_coder (after n history) (claim worker)).reply ≡ Told k Claimed → IsDesk n (history ++ claim worker ∷ []) desk
+      → job_of (after n (history ++ claim worker ∷ [])) worker ≡ Some k → ClaimDone n history worker desk true (claim_text k)
 
 -- What a finish came to, and its text: the worker has no job, or its job ended with a fault or without, which the engine counts.
 pub data FinishDone (n : ℕ) (history : List DeviceEvent) (worker : ℕ) (desk : Desk) (runs runs' faults faults' : ℕ) : Bool → List ℕ → Type 0 where
   was_idle : job_of (after n history) worker ≡ None → IsDesk n history desk → runs ≤ runs' → faults ≤ faults' → FinishDone n history worker desk runs runs' faults faults' false idle_text
-  ended : (k i : ℕ) (j : JobData) (fault : Bool) → job_of (after n history) worker ≡ Some i → (device_step the_coder (after n history) (finish worker fault)).reply ≡ Told k (Finished (finish_word the_coder j fault)) → IsDesk n (history ++ finish worker fault ∷ []) desk → Tells fault runs runs' faults faults' → FinishDone n history worker desk runs runs' faults faults' fault (finish_text k (finish_word the_coder j fault))
+  ended :
+      (k i : ℕ) (j : JobData) (fault : Bool) → job_of (after n history) worker ≡ Some i
+      → (device_step the_coder (after n history) (finish worker fault)).reply ≡ Told k (Finished (finish_word the_coder j fault))
+      → IsDesk n (history ++ finish worker fault ∷ []) desk → Tells fault runs runs' faults faults'
+      → FinishDone n history worker desk runs runs' faults faults' fault (finish_text k (finish_word the_coder j fault))
 
 -- some slots and some history
 abbrev pub IsSomeDesk : Desk → Type 0

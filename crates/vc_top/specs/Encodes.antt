@@ -4,7 +4,7 @@ use Rattle.std.specs.Io.KnownBytes.{Appends, IsAtEnd}
 use Rattle.vc_base.specs.Counts.{Rose}
 use Rattle.vc_defs.specs.Encoder.{RunRates}
 use Rattle.vc_defs.specs.Outputs.{encode_output, encode_count, is_short_raw}
-use Rattle.vc_encode_flow.specs.Endings.{IsLong}
+use Rattle.vc_flow.specs.Inputs.{IsLong}
 use Rattle.vc_io.specs.Written.{AppendsFront}
 use Rattle.vc_words.specs.declared.command.RateOptions.{RateOptions}
 use Rattle.vc_words.specs.declared.command.EncodeOptions.{EncodeOptions}
@@ -36,7 +36,7 @@ pub record AllEncoded (options : EncodeOptions) (input : List ℕ) (inside : Boo
   pub ends : ends_inside options input ≡ inside
   pub written : Appends old new (frames_of options input)
 
--- All frames were written where the encoding ends well, and where the input ends inside a picture, else a front of them. After
+-- All frames were written where the encoding ends well, and where the input ends inside a picture, else a prefix of them. After
 -- TooLong 2^40 bytes of the input were read.
 abbrev pub EncodeEnds : EncodeOptions → List ℕ → Option (List ℕ) → Option (List ℕ) → Option (List ℕ) → Status → Type 0
 EncodeEnds options input left old new Fine = AllEncoded options input false left old new
@@ -55,9 +55,3 @@ EncodeEnds options input left old new Damaged = ⊥
 pub record IsGoodRaw (options : EncodeOptions) (input : List ℕ) : Type 0 where
   pub whole : ends_inside options input ≡ false
   pub short : length input < 2 ^ 40
-
--- Where the input is whole pictures and isn't too long, and neither the source, the sink nor an engine counts a fault or stands
--- at the end of its count, the end is fine, but for want of memory.
-unfoldable pub EncodeCompletes : EncodeOptions → List ℕ → ℕ → ℕ → ℕ → ℕ → List ℕ → List ℕ → Status → Type 0
-EncodeCompletes options input source_before source_now sink_before sink_now engines_before engines_now status =
-    IsGoodRaw options input → (Rose source_before source_now → ⊥) → (Rose sink_before sink_now → ⊥) → (OneRose engines_before engines_now → ⊥) → (status ≡ Fine) ⊎ (status ≡ NoMemory)

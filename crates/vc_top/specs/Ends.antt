@@ -4,6 +4,7 @@ use Rattle.std.specs.Io.KnownBytes.{Appends, Consumes, IsAtEnd}
 use Rattle.std.specs.Str.Lines.{lines}
 use Rattle.vc_base.specs.Counts.{Rose}
 use Rattle.vc_base.specs.Device.{DeviceEvent}
+use Rattle.vc_crew.specs.Counts.{EngineCounts}
 use Rattle.vc_io.specs.Written.{AppendsFront}
 use Rattle.vc_model.specs.Coder.{the_coder}
 use Rattle.vc_model.specs.Script.{Asked, Prints, events_of_script}
@@ -11,13 +12,8 @@ use Rattle.vc_script.specs.Texts.{reply_text}
 use Rattle.vc_top.specs.declared.status.Status.{Status}
 use Rattle.vc_top.specs.declared.status.Status.TheVariants.{Fine, Usage, ReadFault, WriteFault, BadLine, Damaged, ShortRaw, EngineFault, TooLong, NoMemory}
 use Rattle.vc_top.specs.Asking.{asks_line, asks_lines}
-use Rattle.vc_top.specs.Input.{longest_script}
+use Rattle.vc_base.specs.Limits.{longest_script}
 use Rattle.vc_top.specs.Carries.{finishes, IsCounted}
-
--- the counts of an engine: its runs without fault, and its faults
-pub record EngineCounts : Type 0 where
-  pub runs : ℕ
-  pub faults : ℕ
 
 -- the events of the lines, read off their output
 abbrev pub events_in : ℕ → List Asked → List ℕ → List DeviceEvent
@@ -37,7 +33,7 @@ pub record AllWritten (slots : ℕ) (ls : List (List ℕ)) (old new : Option (Li
   pub written : Appends old new output
   pub failed : Failed (finishes true (events_in slots carries.asked output))
 
--- The first lines were carried out, and a front of their output was written.
+-- The first lines were carried out, and a prefix of their output was written.
 pub record FrontWritten (slots : ℕ) (ls : List (List ℕ)) (old new : Option (List ℕ)) (before now : EngineCounts) : Type 0 where
   pub count : ℕ
   pub output : List ℕ
@@ -74,23 +70,30 @@ pub record LinesOf (slots : ℕ) (input : List ℕ) (left old new : Option (List
   pub short : length input ≤ longest_script
   pub lines_end : LinesEnd slots (lines input) old new before now status
 
--- Reading stopped, after no more bytes than a script may have.
-pub record ReadStopped (input : List ℕ) (left : Option (List ℕ)) : Type 0 where
+-- No more than so many bytes of the input were read.
+pub record ReadAtMost (most : ℕ) (input : List ℕ) (left : Option (List ℕ)) : Type 0 where
   pub bytes : List ℕ
   pub read : Consumes (Some input) left bytes
-  pub short : length bytes ≤ longest_script
+  pub short : length bytes ≤ most
+
+-- The input is longer than a script may be. One byte more than that was read of it, and nothing behind that.
+pub record IsTooLong (input : List ℕ) (left : Option (List ℕ)) : Type 0 where
+  pub long : longest_script < length input
+  pub bytes : List ℕ
+  pub read : Consumes (Some input) left bytes
+  pub most : length bytes ≡ longest_script + 1
 
 -- How a script with this input ends. After a failed read nothing is written, nor of a script that is too long: TooLong is the
--- answer exactly where more than the most bytes were read.
+-- answer exactly where more than the most bytes were read. Out of memory, nothing was written before the script was read whole.
 abbrev pub ScriptEnds : ℕ → List ℕ → Option (List ℕ) → Option (List ℕ) → Option (List ℕ) → EngineCounts → EngineCounts → Status → Type 0
 ScriptEnds slots input left old new before now Fine = LinesOf slots input left old new before now Fine
 ScriptEnds slots input left old new before now EngineFault = LinesOf slots input left old new before now EngineFault
 ScriptEnds slots input left old new before now (BadLine number) = LinesOf slots input left old new before now (BadLine number)
 ScriptEnds slots input left old new before now WriteFault = LinesOf slots input left old new before now WriteFault
 ScriptEnds slots input left old new before now NoMemory =
-    LinesOf slots input left old new before now NoMemory ⊎ (new ≡ old)
-ScriptEnds slots input left old new before now ReadFault = ReadStopped input left × (new ≡ old)
-ScriptEnds slots input left old new before now TooLong = (longest_script < length input) × (new ≡ old)
+    LinesOf slots input left old new before now NoMemory ⊎ (ReadAtMost (longest_script + 1) input left × (new ≡ old))
+ScriptEnds slots input left old new before now ReadFault = ReadAtMost longest_script input left × (new ≡ old)
+ScriptEnds slots input left old new before now TooLong = IsTooLong input left × (new ≡ old)
 ScriptEnds slots input left old new before now Usage = ⊥
 ScriptEnds slots input left old new before now Damaged = ⊥
 ScriptEnds slots input left old new before now ShortRaw = ⊥
@@ -100,9 +103,3 @@ pub record IsGoodScript (slots : ℕ) (input : List ℕ) : Type 0 where
   pub short : length input ≤ longest_script
   pub asked : List Asked
   pub asks : asks_lines slots (lines input) ≡ Some asked
-
--- Where every line of the script is in the grammar, it isn't too long, and neither the source, the sink nor the engine counts a
--- fault or stands at the end of its count, the end is fine, but for want of memory.
-unfoldable pub Completes : ℕ → List ℕ → ℕ → ℕ → ℕ → ℕ → ℕ → ℕ → Status → Type 0
-Completes slots input source_before source_now sink_before sink_now engine_before engine_now status =
-    IsGoodScript slots input → (Rose source_before source_now → ⊥) → (Rose sink_before sink_now → ⊥) → (Rose engine_before engine_now → ⊥) → (status ≡ Fine) ⊎ (status ≡ NoMemory)

@@ -6,11 +6,12 @@ use Rattle.vc_defs.specs.Encoder.{RunRates}
 use Rattle.vc_defs.specs.Outputs.{fold_of}
 use Rattle.vc_model.specs.Solo.{SoloEvent}
 use Rattle.vc_port.specs.Payloads.{good_finishes, faulty_finishes}
-use Rattle.vc_encode_flow.specs.declared.ends.FlowEnd.{FlowEnd}
-use Rattle.vc_encode_flow.specs.declared.ends.FlowEnd.TheVariants.{Whole, Damaged, ShortRaw, ReadFault, WriteFault, EngineFault, TooLong, NoMemory}
+use Rattle.vc_flow.specs.declared.ends.FlowEnd.{FlowEnd}
+use Rattle.vc_flow.specs.declared.ends.FlowEnd.TheVariants.{Whole, Damaged, ShortRaw, ReadFault, WriteFault, EngineFault, TooLong, NoMemory}
 use Rattle.vc_encode_flow.specs.declared.tallying.Tally.{Tally}
 use Rattle.vc_encode_flow.specs.Shares.{generated_bytes}
-use Rattle.vc_encode_flow.specs.Endings.{IsWritten, IsFrontWritten, IsLong}
+use Rattle.vc_encode_flow.specs.Endings.{IsWritten, IsFrontWritten}
+use Rattle.vc_flow.specs.Inputs.{IsLong}
 use Rattle.vc_decode_flow.specs.Endings as decoding
 use Rattle.vc_top.specs.declared.status.Status.{Status}
 use Rattle.vc_top.specs.declared.status.Status.TheVariants as statuses

@@ -3,10 +3,7 @@ use Rattle.std.specs.Prelude.{ℕ, ◌≡◌, ◌+◌, ◌≤◌, List, length, 
 use Rattle.std.specs.Io.KnownBytes.{Consumes, IsAtEnd}
 use Rattle.vc_top.specs.declared.input.ReadStop.{ReadStop}
 use Rattle.vc_top.specs.declared.input.ReadStop.TheVariants.{ReadFault, TooLong}
-
--- the most bytes of a script
-abbrev pub longest_script : ℕ
-longest_script = 1048576
+use Rattle.vc_base.specs.Limits.{longest_script}
 
 -- the source had this script, and it is at its end
 pub record WasRead (old new : Option (List ℕ)) (script : List ℕ) : Type 0 where

@@ -1,5 +1,6 @@
 pub mod Asking
 pub mod Carries
+pub mod Commands
 pub mod Decodes
 pub mod Desks
 pub mod Does
@@ -10,7 +11,9 @@ pub mod Flows
 pub mod Input
 pub mod Makes
 pub mod Rows
+pub mod Runs
 pub mod Shares
 pub mod Slots
+pub mod Statuses
 pub mod Steps
 pub mod Words

@@ -11,7 +11,7 @@ use Rattle.vc_top.specs.declared.status.Status.TheVariants.{Fine, Usage, ReadFau
 abbrev pub pictures_of : MakeOptions → List ℕ
 pictures_of options = make_output options.format.fourcc options.format.width options.format.height options.pictures options.number
 
--- All pictures were written, or a front of them, or nothing where memory was refused.
+-- All pictures were written, or a prefix of them, or nothing, out of memory.
 abbrev pub MakeEnds : MakeOptions → Option (List ℕ) → Option (List ℕ) → Status → Type 0
 MakeEnds options old new Fine = Appends old new (pictures_of options)
 MakeEnds options old new WriteFault = AppendsFront old new (pictures_of options)

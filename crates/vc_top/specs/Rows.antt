@@ -17,7 +17,8 @@ opening =
 
 abbrev pub opening_asks : List Asked
 opening_asks =
-    AsksCall 0 (Open Copy) [] ∷ AsksCall 0 (ReqBufs Out 1) [] ∷ AsksCall 0 (ReqBufs Cap 1) [] ∷ AsksCall 0 (QBuf Out 0 2 (stamp 7)) (0 ∷ 255 ∷ []) ∷ AsksCall 0 (QBuf Cap 0 0 (stamp 0)) [] ∷ AsksCall 0 (StreamOn Out) [] ∷ AsksCall 0 (StreamOn Cap) [] ∷ []
+    AsksCall 0 (Open Copy) [] ∷ AsksCall 0 (ReqBufs Out 1) [] ∷ AsksCall 0 (ReqBufs Cap 1) [] ∷ AsksCall 0 (QBuf Out 0 2 (stamp 7)) (0 ∷ 255 ∷ [])
+    ∷ AsksCall 0 (QBuf Cap 0 0 (stamp 0)) [] ∷ AsksCall 0 (StreamOn Out) [] ∷ AsksCall 0 (StreamOn Cap) [] ∷ []
 
 abbrev pub opening_prints : List ℕ
 opening_prints =
@@ -39,7 +40,9 @@ FirstScriptPrints =
 -- While a job runs its queues aren't stopped and its worker is busy; behind its end a worker is idle.
 abbrev pub running_asks : List Asked
 running_asks =
-    opening_asks ++ AsksClaim 0 ∷ AsksCall 0 (StreamOff Out) [] ∷ AsksCall 0 (StreamOff Cap) [] ∷ AsksCall 0 Close [] ∷ AsksClaim 0 ∷ AsksFinish 0 ∷ AsksCall 0 (StreamOff Out) [] ∷ AsksCall 0 (DqBuf Out false) [] ∷ AsksCall 0 (QueryBuf Out 0) [] ∷ AsksCall 0 (DqBuf Cap false) [] ∷ AsksFinish 0 ∷ []
+    opening_asks ++ AsksClaim 0 ∷ AsksCall 0 (StreamOff Out) [] ∷ AsksCall 0 (StreamOff Cap) [] ∷ AsksCall 0 Close [] ∷ AsksClaim 0 ∷ AsksFinish 0
+    ∷ AsksCall 0 (StreamOff Out) [] ∷ AsksCall 0 (DqBuf Out false) [] ∷ AsksCall 0 (QueryBuf Out 0) [] ∷ AsksCall 0 (DqBuf Cap false) []
+    ∷ AsksFinish 0 ∷ []
 
 abbrev pub RunningScriptAsks : Type 0
 RunningScriptAsks =
@@ -47,7 +50,9 @@ RunningScriptAsks =
 
 abbrev pub RunningScriptPrints : Type 0
 RunningScriptPrints =
-    Prints reply_text the_coder 16 running_asks (opening_prints ++ codes "0 claim\n0 off blocked\n0 off blocked\n0 close blocked\n- claim busy\n0 finish copied\n0 off ok\n0 dq EINVAL\n0 query ok 0 4096 0\n0 dq ok 0 2 0 0 7 00ff\n- finish idle\n")
+    Prints reply_text the_coder 16 running_asks
+    (opening_prints
+    ++ codes "0 claim\n0 off blocked\n0 off blocked\n0 close blocked\n- claim busy\n0 finish copied\n0 off ok\n0 dq EINVAL\n0 query ok 0 4096 0\n0 dq ok 0 2 0 0 7 00ff\n- finish idle\n")
 
 -- Two slots: nothing is to be claimed, and one slot stays closed.
 abbrev pub two_slots_asks : List Asked

@@ -5,7 +5,7 @@ use Rattle.std.specs.Fmt.{decimal}
 use Rattle.std.specs.Io.KnownBytes.{Appends}
 use Rattle.vc_base.specs.Counts.{Rose}
 use Rattle.vc_defs.specs.Outputs.{share_line, share_output}
-use Rattle.vc_encode_flow.specs.declared.ends.FlowEnd.{FlowEnd}
+use Rattle.vc_flow.specs.declared.ends.FlowEnd.{FlowEnd}
 use Rattle.vc_encode_flow.specs.declared.tallying.Tally.{Tally}
 use Rattle.vc_encode_flow.specs.Shares.{generated_bytes}
 use Rattle.vc_io.specs.Written.{AppendsFront}
@@ -38,7 +38,7 @@ ShareLinesAreDefined =
 abbrev pub share_count : ShareOptions → ℕ
 share_count options = options.contexts * options.pictures
 
--- All lines were written where the sharing ends well, and a front of them after a failed write. Else nothing was.
+-- All lines were written where the sharing ends well, and a prefix of them after a failed write. Else nothing was.
 abbrev pub ShareEnds : ShareOptions → Option (List ℕ) → Option (List ℕ) → Status → Type 0
 ShareEnds options old new Fine = Appends old new (share_lines options)
 ShareEnds options old new WriteFault = AppendsFront old new (share_lines options)
@@ -50,11 +50,6 @@ ShareEnds options old new (BadLine line) = ⊥
 ShareEnds options old new Damaged = ⊥
 ShareEnds options old new ShortRaw = ⊥
 ShareEnds options old new TooLong = ⊥
-
--- Where neither the sink nor an engine counts a fault or stands at the end of its count, the end is fine, but for want of memory.
-unfoldable pub ShareCompletes : ℕ → ℕ → List ℕ → List ℕ → Status → Type 0
-ShareCompletes sink_before sink_now engines_before engines_now status =
-    (Rose sink_before sink_now → ⊥) → (OneRose engines_before engines_now → ⊥) → (status ≡ Fine) ⊎ (status ≡ NoMemory)
 
 -- what runs in a context
 abbrev pub flow_for : ShareOptions → ℕ → ShareFlow

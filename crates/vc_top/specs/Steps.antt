@@ -20,7 +20,7 @@ pub record LineDone (slots : ℕ) (history : List DeviceEvent) (line : List ℕ)
   pub made : LineMade slots history asked text fault runs runs' faults faults' desk
   pub written : Appends before after text
 
--- The line was carried out, and a front of what it prints was written.
+-- The line was carried out, and a prefix of what it prints was written.
 pub record LineCut (slots : ℕ) (history : List DeviceEvent) (line : List ℕ) (before after : Option (List ℕ)) (runs runs' faults faults' : ℕ) : Type 0 where
   pub asked : Asked
   pub text : List ℕ

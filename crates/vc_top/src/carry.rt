@@ -30,7 +30,8 @@ fn carry_call(
     requires desk { IsSomeDesk desk.old }
     requires slot { slot < length desk.old.core.slots }
     requires counts { desk.old.core.steps < 2 ^ 62 }
-    ensures made { (n : ℕ) (history : List DeviceEvent) (runs faults : ℕ) → IsDesk n history desk.old → HasUsedBytes call.now bytes.now → IfOk result (λ p. LineMade n history (AsksCall slot call.now bytes.now) p.text.items p.fault runs runs faults faults desk.new) }
+    ensures made { (n : ℕ) (history : List DeviceEvent) (runs faults : ℕ) → IsDesk n history desk.old → HasUsedBytes call.now bytes.now →
+        IfOk result (λ p. LineMade n history (AsksCall slot call.now bytes.now) p.text.items p.fault runs runs faults faults desk.new) }
     ensures steps { IfOk result (λ p. desk.new.core.steps ≤ desk.old.core.steps + 1) }
 {
     let reply = desk.call(slot, call, bytes);
@@ -81,7 +82,8 @@ fn carry_finish<E: Engine>(
     requires desk { IsSomeDesk desk.old }
     requires worker { worker < 16 }
     requires counts { desk.old.core.steps < 2 ^ 62 }
-    ensures done { IfOk result (λ fault. FinishesWith desk.old worker text.old.items text.new.items desk.new (E.run_count engine.old) (E.run_count engine.new) (E.fault_count engine.old) (E.fault_count engine.new) fault) }
+    ensures done { IfOk result (λ fault. FinishesWith desk.old worker text.old.items text.new.items desk.new
+        (E.run_count engine.old) (E.run_count engine.new) (E.fault_count engine.old) (E.fault_count engine.new) fault) }
     ensures steps { IfOk result (λ fault. desk.new.core.steps ≤ desk.old.core.steps + 1) }
     ensures runs_stay { E.run_count engine.old ≤ E.run_count engine.new }
     ensures faults_stay { E.fault_count engine.old ≤ E.fault_count engine.new }
@@ -109,7 +111,9 @@ fn carry_run<E: Engine>(
     requires worker { worker < 16 }
     requires counts { desk.old.core.steps + 1 < 2 ^ 62 }
     requires first { text.old.items ≡ [] }
-    ensures made { (n : ℕ) (history : List DeviceEvent) → IsDesk n history desk.old → IfOk result (λ fault. LineMade n history (AsksRun worker) text.new.items fault (E.run_count engine.old) (E.run_count engine.new) (E.fault_count engine.old) (E.fault_count engine.new) desk.new) }
+    ensures made { (n : ℕ) (history : List DeviceEvent) → IsDesk n history desk.old →
+        IfOk result (λ fault. LineMade n history (AsksRun worker) text.new.items fault
+        (E.run_count engine.old) (E.run_count engine.new) (E.fault_count engine.old) (E.fault_count engine.new) desk.new) }
     ensures steps { IfOk result (λ fault. desk.new.core.steps ≤ desk.old.core.steps + 2) }
     ensures runs_stay { E.run_count engine.old ≤ E.run_count engine.new }
     ensures faults_stay { E.fault_count engine.old ≤ E.fault_count engine.new }
@@ -126,7 +130,8 @@ fn claim_line(alloc: Global, desk: &mut Desk, worker: u32) -> Result<Printed, No
     requires desk { IsSomeDesk desk.old }
     requires worker { worker < 16 }
     requires counts { desk.old.core.steps < 2 ^ 62 }
-    ensures made { (n : ℕ) (history : List DeviceEvent) (runs faults : ℕ) → IsDesk n history desk.old → IfOk result (λ p. LineMade n history (AsksClaim worker) p.text.items p.fault runs runs faults faults desk.new) }
+    ensures made { (n : ℕ) (history : List DeviceEvent) (runs faults : ℕ) → IsDesk n history desk.old →
+        IfOk result (λ p. LineMade n history (AsksClaim worker) p.text.items p.fault runs runs faults faults desk.new) }
     ensures steps { IfOk result (λ p. desk.new.core.steps ≤ desk.old.core.steps + 1) }
 {
     let mut text = Vec::new(alloc);
@@ -144,7 +149,9 @@ fn finish_line<E: Engine>(
     requires desk { IsSomeDesk desk.old }
     requires worker { worker < 16 }
     requires counts { desk.old.core.steps < 2 ^ 62 }
-    ensures made { (n : ℕ) (history : List DeviceEvent) → IsDesk n history desk.old → IfOk result (λ p. LineMade n history (AsksFinish worker) p.text.items p.fault (E.run_count engine.old) (E.run_count engine.new) (E.fault_count engine.old) (E.fault_count engine.new) desk.new) }
+    ensures made { (n : ℕ) (history : List DeviceEvent) → IsDesk n history desk.old →
+        IfOk result (λ p. LineMade n history (AsksFinish worker) p.text.items p.fault
+        (E.run_count engine.old) (E.run_count engine.new) (E.fault_count engine.old) (E.fault_count engine.new) desk.new) }
     ensures steps { IfOk result (λ p. desk.new.core.steps ≤ desk.old.core.steps + 1) }
     ensures runs_stay { E.run_count engine.old ≤ E.run_count engine.new }
     ensures faults_stay { E.fault_count engine.old ≤ E.fault_count engine.new }
@@ -164,7 +171,9 @@ fn run_line<E: Engine>(
     requires desk { IsSomeDesk desk.old }
     requires worker { worker < 16 }
     requires counts { desk.old.core.steps + 1 < 2 ^ 62 }
-    ensures made { (n : ℕ) (history : List DeviceEvent) → IsDesk n history desk.old → IfOk result (λ p. LineMade n history (AsksRun worker) p.text.items p.fault (E.run_count engine.old) (E.run_count engine.new) (E.fault_count engine.old) (E.fault_count engine.new) desk.new) }
+    ensures made { (n : ℕ) (history : List DeviceEvent) → IsDesk n history desk.old →
+        IfOk result (λ p. LineMade n history (AsksRun worker) p.text.items p.fault
+        (E.run_count engine.old) (E.run_count engine.new) (E.fault_count engine.old) (E.fault_count engine.new) desk.new) }
     ensures steps { IfOk result (λ p. desk.new.core.steps ≤ desk.old.core.steps + 2) }
     ensures runs_stay { E.run_count engine.old ≤ E.run_count engine.new }
     ensures faults_stay { E.fault_count engine.old ≤ E.fault_count engine.new }
@@ -184,7 +193,9 @@ pub(crate) fn carry_out<E: Engine>(
     requires desk { IsSomeDesk desk.old }
     requires asked { IsAskedLine (length desk.old.core.slots) asked }
     requires counts { desk.old.core.steps + 1 < 2 ^ 62 }
-    ensures made { (n : ℕ) (history : List DeviceEvent) → IsDesk n history desk.old → IfOk result (λ p. LineMade n history (asked_of asked) p.text.items p.fault (E.run_count engine.old) (E.run_count engine.new) (E.fault_count engine.old) (E.fault_count engine.new) desk.new) }
+    ensures made { (n : ℕ) (history : List DeviceEvent) → IsDesk n history desk.old →
+        IfOk result (λ p. LineMade n history (asked_of asked) p.text.items p.fault
+        (E.run_count engine.old) (E.run_count engine.new) (E.fault_count engine.old) (E.fault_count engine.new) desk.new) }
     ensures steps { IfOk result (λ p. desk.new.core.steps ≤ desk.old.core.steps + 2) }
     ensures runs_stay { E.run_count engine.old ≤ E.run_count engine.new }
     ensures faults_stay { E.fault_count engine.old ≤ E.fault_count engine.new }

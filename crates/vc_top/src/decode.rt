@@ -1,11 +1,10 @@
 //! The command `decode`.
 
-ghost use Rattle.std.specs.Prelude.{◌≡◌, ◌≢◌, ◌⊎◌, IfSome, map, vec_len, take, drop};
+ghost use Rattle.std.specs.Prelude.{◌≡◌, ◌≢◌, vec_len, drop};
 ghost use Rattle.vc_base.specs.Counts.{Rose};
-ghost use Rattle.vc_crew.specs.Rising.{RoseTogether};
-ghost use Rattle.vc_defs.specs.Outputs.{result_count};
-ghost use Rattle.vc_top.specs.Decodes.{DecodeEnds, DecodeCompletes};
-ghost use Rattle.vc_top.specs.Engines.{OneRose};
+ghost use Rattle.vc_crew.specs.Counts.{counts_of};
+ghost use Rattle.vc_top.specs.Commands.{DecodeDoes};
+ghost use Rattle.vc_top.specs.Runs.{seen};
 ghost use Rattle.vc_words.specs.Ranges.{IsDecode};
 
 use crate::flows::{DecodeFlow, flow_status};
@@ -30,13 +29,13 @@ pub(crate) fn decode_run<R: Threads + Wait + Sync, S: Source, K: Sink, E: Engine
 ) -> Status
     requires options { IsDecode options.now }
     requires engines { vec_len engines.old ≡ 16 }
-    ensures end { IfSome (S.left source.old) (λ input. DecodeEnds input (S.left source.new) (K.written sink.old) (K.written sink.new) result) }
-    ensures runs { (result ≡ Status.Fine) ⊎ (result ≡ Status.Damaged) → IfSome (S.left source.old) (λ input. RoseTogether (result_count input) (map (λ e. E.run_count e) (take options.now.workers engines.old.items)) (map (λ e. E.run_count e) (take options.now.workers engines.new.items))) }
+    ensures does { let counts = counts_of E.run_count E.fault_count in
+        let before = seen (S.left source.old) (S.faults source.old) (K.written sink.old) (K.faults sink.old) (counts engines.old.items) in
+        let after = seen (S.left source.new) (S.faults source.new) (K.written sink.new) (K.faults sink.new) (counts engines.new.items) in
+        DecodeDoes options.now (record { before = before; after = after; status = result }) }
     ensures read { result ≡ Status.ReadFault → Rose (S.faults source.old) (S.faults source.new) }
     ensures write { result ≡ Status.WriteFault → Rose (K.faults sink.old) (K.faults sink.new) }
-    ensures engine { result ≡ Status.EngineFault → OneRose (map (λ e. E.fault_count e) (take options.now.workers engines.old.items)) (map (λ e. E.fault_count e) (take options.now.workers engines.new.items)) }
     ensures words { result ≢ Status.Usage }
-    ensures complete { IfSome (S.left source.old) (λ input. DecodeCompletes input (S.faults source.old) (S.faults source.new) (K.faults sink.old) (K.faults sink.new) (map (λ e. E.fault_count e) (take options.now.workers engines.old.items)) (map (λ e. E.fault_count e) (take options.now.workers engines.new.items)) result) }
     ensures crew { vec_len engines.new ≡ 16 }
     ensures others { drop options.now.workers engines.new.items ≡ drop options.now.workers engines.old.items }
 {

@@ -1,10 +1,10 @@
 //! The command `encode`.
 
-ghost use Rattle.std.specs.Prelude.{◌≡◌, ◌≢◌, IfSome, map, vec_len, take, drop};
+ghost use Rattle.std.specs.Prelude.{◌≡◌, ◌≢◌, vec_len, drop};
 ghost use Rattle.vc_base.specs.Counts.{Rose};
-ghost use Rattle.vc_crew.specs.Rising.{RoseTogether};
-ghost use Rattle.vc_top.specs.Encodes.{EncodeEnds, EncodeCompletes, frame_count};
-ghost use Rattle.vc_top.specs.Engines.{OneRose};
+ghost use Rattle.vc_crew.specs.Counts.{counts_of};
+ghost use Rattle.vc_top.specs.Commands.{EncodeDoes};
+ghost use Rattle.vc_top.specs.Runs.{seen};
 ghost use Rattle.vc_words.specs.Ranges.{IsEncode};
 
 use crate::flows::{EncodeFlow, flow_status};
@@ -29,13 +29,13 @@ pub(crate) fn encode_run<R: Threads + Wait + Sync, S: Source, K: Sink, E: Engine
 ) -> Status
     requires options { IsEncode options.now }
     requires engines { vec_len engines.old ≡ 16 }
-    ensures end { IfSome (S.left source.old) (λ input. EncodeEnds options.now input (S.left source.new) (K.written sink.old) (K.written sink.new) result) }
-    ensures runs { result ≡ Status.Fine → IfSome (S.left source.old) (λ input. RoseTogether (frame_count options.now input) (map (λ e. E.run_count e) (take options.now.workers engines.old.items)) (map (λ e. E.run_count e) (take options.now.workers engines.new.items))) }
+    ensures does { let counts = counts_of E.run_count E.fault_count in
+        let before = seen (S.left source.old) (S.faults source.old) (K.written sink.old) (K.faults sink.old) (counts engines.old.items) in
+        let after = seen (S.left source.new) (S.faults source.new) (K.written sink.new) (K.faults sink.new) (counts engines.new.items) in
+        EncodeDoes options.now (record { before = before; after = after; status = result }) }
     ensures read { result ≡ Status.ReadFault → Rose (S.faults source.old) (S.faults source.new) }
     ensures write { result ≡ Status.WriteFault → Rose (K.faults sink.old) (K.faults sink.new) }
-    ensures engine { result ≡ Status.EngineFault → OneRose (map (λ e. E.fault_count e) (take options.now.workers engines.old.items)) (map (λ e. E.fault_count e) (take options.now.workers engines.new.items)) }
     ensures words { result ≢ Status.Usage }
-    ensures complete { IfSome (S.left source.old) (λ input. EncodeCompletes options.now input (S.faults source.old) (S.faults source.new) (K.faults sink.old) (K.faults sink.new) (map (λ e. E.fault_count e) (take options.now.workers engines.old.items)) (map (λ e. E.fault_count e) (take options.now.workers engines.new.items)) result) }
     ensures crew { vec_len engines.new ≡ 16 }
     ensures others { drop options.now.workers engines.new.items ≡ drop options.now.workers engines.old.items }
 {

@@ -4,6 +4,7 @@ ghost use Rattle.std.specs.Prelude.{◌≡◌, ◌≢◌, ◌<◌, ◌≤◌, �
 ghost use Rattle.std.specs.Str.Lines.{lines};
 ghost use Rattle.vc_base.specs.Counts.{Rose};
 ghost use Rattle.vc_base.specs.Device.{DeviceEvent};
+ghost use Rattle.vc_crew.specs.Counts.{count_of};
 ghost use Rattle.vc_top.specs.Desks.{IsDesk, IsSomeDesk};
 ghost use Rattle.vc_top.specs.Ends.{LinesEnd};
 ghost use Rattle.vc_top.specs.Steps.{LineDone, LineStopped, status_of, status_at_end};
@@ -36,8 +37,12 @@ fn do_line<K: Sink, E: Engine>(
     requires desk { IsSomeDesk desk.old }
     requires slots { length desk.old.core.slots ≡ slots }
     requires counts { desk.old.core.steps + 1 < 2 ^ 62 }
-    ensures done { (history : List DeviceEvent) → IsDesk slots history desk.old → IfOk result (λ fault. LineDone slots history line.now (K.written sink.old) (K.written sink.new) fault (E.run_count engine.old) (E.run_count engine.new) (E.fault_count engine.old) (E.fault_count engine.new) desk.new) }
-    ensures stopped { (history : List DeviceEvent) → IsDesk slots history desk.old → IfErr result (λ stop. LineStopped slots history line.now (K.written sink.old) (K.written sink.new) (E.run_count engine.old) (E.run_count engine.new) (E.fault_count engine.old) (E.fault_count engine.new) stop) }
+    ensures done { (history : List DeviceEvent) → IsDesk slots history desk.old →
+        IfOk result (λ fault. LineDone slots history line.now (K.written sink.old) (K.written sink.new) fault
+        (E.run_count engine.old) (E.run_count engine.new) (E.fault_count engine.old) (E.fault_count engine.new) desk.new) }
+    ensures stopped { (history : List DeviceEvent) → IsDesk slots history desk.old →
+        IfErr result (λ stop. LineStopped slots history line.now (K.written sink.old) (K.written sink.new)
+        (E.run_count engine.old) (E.run_count engine.new) (E.fault_count engine.old) (E.fault_count engine.new) stop) }
     ensures steps { IfOk result (λ fault. desk.new.core.steps ≤ desk.old.core.steps + 2) }
     ensures sink_later { K.faults sink.old ≤ K.faults sink.new }
     ensures write { IsErrOf result LineStop.WriteFault → Rose (K.faults sink.old) (K.faults sink.new) }
@@ -96,7 +101,7 @@ fn do_lines<K: Sink, E: Engine>(
     requires desk { IsDesk slots [] desk.old }
     requires steps { desk.old.core.steps ≡ 0 }
     requires short { length script.now ≤ 1048576 }
-    ensures end { LinesEnd slots (lines script.now) (K.written sink.old) (K.written sink.new) (record { runs = E.run_count engine.old; faults = E.fault_count engine.old }) (record { runs = E.run_count engine.new; faults = E.fault_count engine.new }) result }
+    ensures end { LinesEnd slots (lines script.now) (K.written sink.old) (K.written sink.new) (count_of E.run_count E.fault_count engine.old) (count_of E.run_count E.fault_count engine.new) result }
     ensures write { result ≡ Status.WriteFault → Rose (K.faults sink.old) (K.faults sink.new) }
 {
     let mut rest = script;
@@ -124,7 +129,7 @@ pub(crate) fn run_lines<K: Sink, E: Engine>(
 ) -> Status
     requires slots { (0 < slots) × (slots ≤ 1024) }
     requires short { length script.now ≤ 1048576 }
-    ensures end { LinesEnd slots (lines script.now) (K.written sink.old) (K.written sink.new) (record { runs = E.run_count engine.old; faults = E.fault_count engine.old }) (record { runs = E.run_count engine.new; faults = E.fault_count engine.new }) result }
+    ensures end { LinesEnd slots (lines script.now) (K.written sink.old) (K.written sink.new) (count_of E.run_count E.fault_count engine.old) (count_of E.run_count E.fault_count engine.new) result }
     ensures write { result ≡ Status.WriteFault → Rose (K.faults sink.old) (K.faults sink.new) }
 {
     match Desk::make(alloc, slots) {

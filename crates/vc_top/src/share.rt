@@ -1,11 +1,12 @@
 //! The command `share`.
 
-ghost use Rattle.std.specs.Prelude.{◌≡◌, ◌≢◌, ◌⊎◌, ◌++◌, Ok, IfOk, IfErr, OnOk, map, vec_len, take, drop};
+ghost use Rattle.std.specs.Prelude.{◌≡◌, ◌≢◌, ◌⊎◌, ◌++◌, None, Ok, IfOk, IfErr, OnOk, map, vec_len, drop};
 ghost use Rattle.std.specs.List.{range_with_len};
 ghost use Rattle.vc_base.specs.Counts.{Rose};
-ghost use Rattle.vc_crew.specs.Rising.{RoseTogether};
-ghost use Rattle.vc_top.specs.Engines.{OneRose};
-ghost use Rattle.vc_top.specs.Shares.{AreTallied, OneFailed, ShareCompletes, ShareEnds, end_line, end_lines, flow_for, share_count};
+ghost use Rattle.vc_crew.specs.Counts.{counts_of};
+ghost use Rattle.vc_top.specs.Commands.{ShareDoes};
+ghost use Rattle.vc_top.specs.Runs.{seen};
+ghost use Rattle.vc_top.specs.Shares.{AreTallied, OneFailed, end_line, end_lines, flow_for};
 ghost use Rattle.vc_words.specs.Ranges.{IsShare};
 
 use crate::flows::{ShareFlow, flow_status};
@@ -91,13 +92,15 @@ pub(crate) fn share_run<R: Threads + Wait + Sync, K: Sink, E: Engine + Send>(
 ) -> Status
     requires options { IsShare options.now }
     requires engines { vec_len engines.old ≡ 16 }
-    ensures end { ShareEnds options.now (K.written sink.old) (K.written sink.new) result }
-    ensures runs { result ≡ Status.Fine → RoseTogether (share_count options.now) (map (λ e. E.run_count e) (take options.now.workers engines.old.items)) (map (λ e. E.run_count e) (take options.now.workers engines.new.items)) }
+
+    // It has no source: of that nothing is told.
+    ensures does { let counts = counts_of E.run_count E.fault_count in
+        let before = seen None 0 (K.written sink.old) (K.faults sink.old) (counts engines.old.items) in
+        let after = seen None 0 (K.written sink.new) (K.faults sink.new) (counts engines.new.items) in
+        ShareDoes options.now (record { before = before; after = after; status = result }) }
     ensures write { result ≡ Status.WriteFault → Rose (K.faults sink.old) (K.faults sink.new) }
-    ensures engine { result ≡ Status.EngineFault → OneRose (map (λ e. E.fault_count e) (take options.now.workers engines.old.items)) (map (λ e. E.fault_count e) (take options.now.workers engines.new.items)) }
     ensures words { result ≢ Status.Usage }
     ensures reads { result ≢ Status.ReadFault }
-    ensures complete { ShareCompletes (K.faults sink.old) (K.faults sink.new) (map (λ e. E.fault_count e) (take options.now.workers engines.old.items)) (map (λ e. E.fault_count e) (take options.now.workers engines.new.items)) result }
     ensures crew { vec_len engines.new ≡ 16 }
     ensures others { drop options.now.workers engines.new.items ≡ drop options.now.workers engines.old.items }
 {

@@ -1,3 +1,6 @@
+ghost use Rattle.std.specs.Prelude.{◌≡◌};
+ghost use Rattle.vc_top.specs.Statuses.{status_number, status_text};
+
 /// How a command ended.
 #[derive(Clone, Copy, Debug, PartialEq, Eq)]
 pub enum Status {
@@ -22,4 +25,43 @@ pub enum Status {
     TooLong,
     /// A growth of memory was refused. Exit status 12.
     NoMemory,
+}
+
+impl Status {
+    /// The exit status.
+    pub fn number(self) -> u8
+        ensures { result ≡ status_number self }
+    {
+        match self {
+            Status::Fine => 0,
+            Status::Usage => 2,
+            Status::ReadFault => 3,
+            Status::WriteFault => 4,
+            Status::BadLine { .. } => 5,
+            Status::Damaged => 6,
+            Status::ShortRaw => 7,
+            Status::EngineFault => 8,
+            Status::TooLong => 10,
+            Status::NoMemory => 12,
+        }
+    }
+
+    /// What the program says of it on standard error. The number of a bad line comes behind it, and nothing is said where
+    /// the end is fine.
+    pub fn text(self) -> &'static str
+        ensures { result.now ≡ status_text self }
+    {
+        match self {
+            Status::Fine => "fine",
+            Status::Usage => "usage",
+            Status::ReadFault => "read fault",
+            Status::WriteFault => "write fault",
+            Status::BadLine { .. } => "bad line",
+            Status::Damaged => "damaged stream",
+            Status::ShortRaw => "short raw picture",
+            Status::EngineFault => "engine fault",
+            Status::TooLong => "too long",
+            Status::NoMemory => "no memory",
+        }
+    }
 }

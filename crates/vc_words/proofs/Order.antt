@@ -10,7 +10,9 @@ use Rattle.vc_words.specs.declared.options.Name.TheVariants as names
 use Rattle.vc_words.specs.declared.options.NumberOption.{NumberOption}
 use Rattle.vc_words.specs.Options.{name_text, is_known, value_of, is_single, are_options, number_in, number_for}
 use Rattle.vc_words.specs.Formats.{width_option, height_option, fourcc_in, sized_format, format_for}
-use Rattle.vc_words.specs.Commands.{slots_option, gop_option, iqp_option, pqp_option, workers_option, made_pictures_option, shared_pictures_option, number_option, contexts_option, rates_for, script_options, encode_options, decode_options, make_options, share_options, transcode_options, audit_options, wire_options, command_of}
+use Rattle.vc_words.specs.Commands.{slots_option, gop_option, iqp_option, pqp_option, workers_option, made_pictures_option, shared_pictures_option}
+use Rattle.vc_words.specs.Commands.{number_option, contexts_option, rates_for, script_options, encode_options, decode_options, make_options, share_options}
+use Rattle.vc_words.specs.Commands.{transcode_options, audit_options, wire_options, command_of}
 use Rattle.vc_defs.specs.Raw.{yu12}
 use Rattle.vc_words.specs.Laws.{Pair, words_of}
 
@@ -81,7 +83,9 @@ some_behind : (n : List ℕ) (front back : List Pair) (one two : Pair) → is_so
 some_behind n [] back one two = some_swapped (bytes_eq one.name n) (bytes_eq two.name n) one.value two.value (value_of n (words_of back))
 some_behind n (p ∷ front) back one two = here (bytes_eq p.name n) (some_behind n front back one two)
   where
-    here : (x : Bool) → is_some (value_of n (before front one two back)) ≡ is_some (value_of n (before front two one back)) → is_some (cond x (Some p.value) (value_of n (before front one two back))) ≡ is_some (cond x (Some p.value) (value_of n (before front two one back)))
+    here :
+        (x : Bool) → is_some (value_of n (before front one two back)) ≡ is_some (value_of n (before front two one back))
+        → is_some (cond x (Some p.value) (value_of n (before front one two back))) ≡ is_some (cond x (Some p.value) (value_of n (before front two one back)))
     here true e = refl
     here false e = e
 
@@ -100,7 +104,8 @@ options_behind known (p ∷ front) back one two =
 
 names_differ : (known : List Name) (front back : List Pair) (one two : Pair) → are_options known (before front one two back) ≡ true → bytes_eq two.name one.name ≡ false
 names_differ known [] back one two h =
-    single_differs (bytes_eq two.name one.name) (is_known known one.name) two.value (value_of one.name (words_of back)) (first_of_both (is_single known one.name (two.name ∷ two.value ∷ words_of back)) (is_single known two.name (words_of back) && are_options known (words_of back)) h)
+    single_differs (bytes_eq two.name one.name) (is_known known one.name) two.value (value_of one.name (words_of back))
+    (first_of_both (is_single known one.name (two.name ∷ two.value ∷ words_of back)) (is_single known two.name (words_of back) && are_options known (words_of back)) h)
 names_differ known (p ∷ front) back one two h =
     names_differ known front back one two (second_of_both (is_single known p.name (before front one two back)) (are_options known (before front one two back)) h)
 
@@ -217,4 +222,14 @@ order_is_free command front back one two =
     let these : List (List ℕ) = before front one two back in
     let others : List (List ℕ) = before front two one back in
     let like : AreAlike these others = alike front back one two in
-    rw (script_same these others like, encode_same these others like, decode_same these others like, make_same these others like, share_same these others like, transcode_same these others like, audit_same these others like, wire_same these others like) refl
+    rw (
+      script_same these others like,
+      encode_same these others like,
+      decode_same these others like,
+      make_same these others like,
+      share_same these others like,
+      transcode_same these others like,
+      audit_same these others like,
+      wire_same these others like,
+    )
+    refl

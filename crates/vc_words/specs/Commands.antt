@@ -1,6 +1,7 @@
 -- What the words of the command line ask for: docs/FORMAT.md, "Words".
 use Rattle.std.specs.Prelude.{ℕ, if◌then◌else◌, List, [], ◌∷◌, codes, bytes_eq, Option, Some, None}
 use Rattle.std.specs.Option.{option_map}
+use Rattle.vc_base.specs.Limits.{most_gop, most_quantiser, most_slots, script_workers}
 use Rattle.vc_defs.specs.Raw.{yu12}
 use Rattle.vc_script.specs.Optional.{◌>>=◌}
 use Rattle.vc_words.specs.declared.options.Name.{Name}
@@ -22,19 +23,19 @@ use Rattle.vc_words.specs.Formats.{format_for, sized_format}
 
 -- The options that are numbers: the range, and what counts where the option is not named.
 abbrev pub slots_option : NumberOption
-slots_option = record { name = names.Slots; least = 1; most = 1024; unnamed = 16 }
+slots_option = record { name = names.Slots; least = 1; most = most_slots; unnamed = 16 }
 
 abbrev pub gop_option : NumberOption
-gop_option = record { name = names.Gop; least = 1; most = 16; unnamed = 10 }
+gop_option = record { name = names.Gop; least = 1; most = most_gop; unnamed = 10 }
 
 abbrev pub iqp_option : NumberOption
-iqp_option = record { name = names.Iqp; least = 1; most = 31; unnamed = 20 }
+iqp_option = record { name = names.Iqp; least = 1; most = most_quantiser; unnamed = 20 }
 
 abbrev pub pqp_option : NumberOption
-pqp_option = record { name = names.Pqp; least = 1; most = 31; unnamed = 20 }
+pqp_option = record { name = names.Pqp; least = 1; most = most_quantiser; unnamed = 20 }
 
 abbrev pub workers_option : NumberOption
-workers_option = record { name = names.Workers; least = 1; most = 16; unnamed = 4 }
+workers_option = record { name = names.Workers; least = 1; most = script_workers; unnamed = 4 }
 
 abbrev pub made_pictures_option : NumberOption
 made_pictures_option = record { name = names.Pictures; least = 1; most = 1000000; unnamed = 1 }

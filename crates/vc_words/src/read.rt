@@ -10,39 +10,40 @@ use crate::command::{
 };
 use crate::formats::{format_for, yu12_for};
 use crate::options::{Name, NumberOption, are_options, number_for};
+use vc_base::limits::{MOST_GOP, MOST_QUANTISER, MOST_SLOTS, SCRIPT_WORKERS};
 
 const SLOTS: NumberOption = NumberOption {
     name: Name::Slots,
     least: 1,
-    most: 1024,
+    most: MOST_SLOTS,
     unnamed: 16,
 };
 
 const GOP: NumberOption = NumberOption {
     name: Name::Gop,
     least: 1,
-    most: 16,
+    most: MOST_GOP,
     unnamed: 10,
 };
 
 const IQP: NumberOption = NumberOption {
     name: Name::Iqp,
     least: 1,
-    most: 31,
+    most: MOST_QUANTISER,
     unnamed: 20,
 };
 
 const PQP: NumberOption = NumberOption {
     name: Name::Pqp,
     least: 1,
-    most: 31,
+    most: MOST_QUANTISER,
     unnamed: 20,
 };
 
 const WORKERS: NumberOption = NumberOption {
     name: Name::Workers,
     least: 1,
-    most: 16,
+    most: SCRIPT_WORKERS,
     unnamed: 4,
 };
 

@@ -97,38 +97,17 @@ fn run<R: Threads + Wait + Sync + Env + Input + Print + Alloc<A = Global>>(rt: &
 
 /// Tells on standard error how the program ended, where it isn't fine.
 fn report(rt: &impl Eprint, status: Status) -> io::Result<()> {
+    let text = status.text();
     match status {
         Status::Fine => Ok(()),
-        Status::Usage => eprintln!(rt; "vicodec_run: usage"),
-        Status::ReadFault => eprintln!(rt; "vicodec_run: read fault"),
-        Status::WriteFault => eprintln!(rt; "vicodec_run: write fault"),
-        Status::BadLine { line } => eprintln!(rt; "vicodec_run: bad line {line}"),
-        Status::Damaged => eprintln!(rt; "vicodec_run: damaged stream"),
-        Status::ShortRaw => eprintln!(rt; "vicodec_run: short raw picture"),
-        Status::EngineFault => eprintln!(rt; "vicodec_run: engine fault"),
-        Status::TooLong => eprintln!(rt; "vicodec_run: too long"),
-        Status::NoMemory => eprintln!(rt; "vicodec_run: no memory"),
-    }
-}
-
-/// The exit status.
-fn number(status: Status) -> u8 {
-    match status {
-        Status::Fine => 0,
-        Status::Usage => 2,
-        Status::ReadFault => 3,
-        Status::WriteFault => 4,
-        Status::BadLine { .. } => 5,
-        Status::Damaged => 6,
-        Status::ShortRaw => 7,
-        Status::EngineFault => 8,
-        Status::TooLong => 10,
-        Status::NoMemory => 12,
+        Status::BadLine { line } => eprintln!(rt; "vicodec_run: {text} {line}"),
+        _ => eprintln!(rt; "vicodec_run: {text}"),
     }
 }
 
 fn main(rt: HostRuntime) -> ExitCode {
     let status = run(&rt);
+    // Where standard error can't be written, the exit status alone tells the end.
     let _ = report(&rt, status);
-    ExitCode::from(number(status))
+    ExitCode::from(status.number())
 }

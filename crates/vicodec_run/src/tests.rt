@@ -19,7 +19,7 @@ use vc_base::NoMemory;
 use vc_core::Engine;
 use vc_engine::PlainEngine;
 use vc_fault::FailingEngine;
-use vc_io::{MemSink, MemSource};
+use vc_io::{MemSink, MemSource, Source};
 use vc_top::{Status, top};
 
 /// What fails: nothing, the first read, the first write, or one run of the engine, counted from 0.
@@ -161,18 +161,26 @@ fn scripts_of_one_slot(rt: HostRuntime) -> Result<(), Fail> {
 const SCRIPTS: [(&str, &str, Status); 6] = [
     ("", "", Status::Fine),
     (
-        "0 open copy\n0 open copy\n0 req out 33\n0 q out 31 1 aa\n0 q out 31 1 aa\n0 q out 32 1 aa\n0 q out 0 1 aa*4097\n0 query out 31\n0 query out 32\n0 req out 0\n0 on out\n1 poll\n0 gctl 1\n0 sub 5\n",
+        "0 open copy\n0 open copy\n0 req out 33\n0 q out 31 1 aa\n0 q out 31 1 aa\n\
+            0 q out 32 1 aa\n0 q out 0 1 aa*4097\n0 query out 31\n0 query out 32\n0 req out 0\n\
+            0 on out\n1 poll\n0 gctl 1\n0 sub 5\n",
         "0 open ok\n0 open EBUSY\n0 req ok 32\n0 q ok\n0 q EINVAL\n0 q EINVAL\n0 q EINVAL\n0 query ok 31 4096 2\n0 query EINVAL\n0 req ok 0\n0 on EINVAL\n1 poll ENOTTY\n0 gctl EINVAL\n0 sub EINVAL\n",
         Status::Fine,
     ),
     (
-        "0 open copy\n0 req out 1\n0 req cap 1\n0 q out 0 7 00ff\n0 q cap 0\n0 on out\n0 on cap\n1 open copy\n1 req out 1\n1 req cap 1\n1 q out 0 8 a1\n1 q cap 0\n1 on out\n1 on cap\nrun 0\nrun 0\nrun 0\n",
-        "0 open ok\n0 req ok 1\n0 req ok 1\n0 q ok\n0 q ok\n0 on ok\n0 on ok\n1 open ok\n1 req ok 1\n1 req ok 1\n1 q ok\n1 q ok\n1 on ok\n1 on ok\n0 claim\n0 finish copied\n1 claim\n1 finish copied\n- claim none\n",
+        "0 open copy\n0 req out 1\n0 req cap 1\n0 q out 0 7 00ff\n0 q cap 0\n0 on out\n0 on cap\n\
+            1 open copy\n1 req out 1\n1 req cap 1\n1 q out 0 8 a1\n1 q cap 0\n1 on out\n1 on cap\n\
+            run 0\nrun 0\nrun 0\n",
+        "0 open ok\n0 req ok 1\n0 req ok 1\n0 q ok\n0 q ok\n0 on ok\n0 on ok\n1 open ok\n\
+            1 req ok 1\n1 req ok 1\n1 q ok\n1 q ok\n1 on ok\n1 on ok\n0 claim\n0 finish copied\n\
+            1 claim\n1 finish copied\n- claim none\n",
         Status::Fine,
     ),
     (
         "1 open copy\n1 req out 1\n1 req cap 1\n1 q out 0 8 a1\n1 q cap 0\n1 on out\n1 on cap\n0 open copy\n0 req out 1\n0 req cap 1\n0 q out 0 7 00ff\n0 q cap 0\n0 on out\n0 on cap\nrun 0\nrun 0\n",
-        "1 open ok\n1 req ok 1\n1 req ok 1\n1 q ok\n1 q ok\n1 on ok\n1 on ok\n0 open ok\n0 req ok 1\n0 req ok 1\n0 q ok\n0 q ok\n0 on ok\n0 on ok\n1 claim\n1 finish copied\n0 claim\n0 finish copied\n",
+        "1 open ok\n1 req ok 1\n1 req ok 1\n1 q ok\n1 q ok\n1 on ok\n1 on ok\n0 open ok\n\
+            0 req ok 1\n0 req ok 1\n0 q ok\n0 q ok\n0 on ok\n0 on ok\n1 claim\n1 finish copied\n\
+            0 claim\n0 finish copied\n",
         Status::Fine,
     ),
     (
@@ -234,5 +242,21 @@ fn command_lines_and_faults(rt: HostRuntime) -> Result<(), Fail> {
     let (ended, printed) = run(&rt, rt.alloc(), &["script"], long, Failing::Nothing)?;
     assert_eq!(rt; ended, Status::TooLong);
     assert!(rt; printed.is_empty());
+    Ok(())
+}
+
+/// Of a script that is too long one byte more is read than a script may have, and nothing behind that.
+#[test]
+fn a_long_script_is_read_no_further(rt: HostRuntime) -> Result<(), Fail> {
+    let long = vec![in rt.alloc(); b'#'; 1_048_600]?;
+    let mut source = MemSource::make(long, 4096, Vec::new(rt.alloc()));
+    let mut sink = MemSink::make(rt.alloc(), 4096, 5, Vec::new(rt.alloc()))?;
+    let ended = run_between(&rt, rt.alloc(), &["script"], &mut source, &mut sink, None)?;
+    assert_eq!(rt; ended, Status::TooLong);
+    let mut rest = [0u8; 64];
+    let Ok(count) = source.read(&mut rest) else {
+        return Err(Fail::new("the source failed"));
+    };
+    assert_eq!(rt; count, 23);
     Ok(())
 }

@@ -16,7 +16,9 @@ const QUIET: [(&str, &str); 4] = [
         "0 open ok\n0 sfmt ok DATA 0 0 17694720\n0 gfmt ok DATA 0 0 17694720\n0 enum ok DATA\n0 enum EINVAL\n",
     ),
     (
-        "0 open copy\n0 create out 2 8192\n0 create out 1 100\n0 q out 2 1 aa\n0 q out 0 1 aa\n0 query out 1\n0 on out\n0 create out 40 4096\n0 create out 1 4096\n0 create out 0 4096\n0 create out 0 0\n0 req out 1\n",
+        "0 open copy\n0 create out 2 8192\n0 create out 1 100\n0 q out 2 1 aa\n0 q out 0 1 aa\n\
+            0 query out 1\n0 on out\n0 create out 40 4096\n0 create out 1 4096\n0 create out 0 4096\n\
+            0 create out 0 0\n0 req out 1\n",
         "0 open ok\n0 create ok 0 2\n0 create ok 2 1\n0 q EINVAL\n0 q ok\n0 query ok 1 8192 0\n0 on ok\n0 create ok 3 29\n0 create EINVAL\n0 create ok 32 0\n0 create EINVAL\n0 req EBUSY\n",
     ),
     (

@@ -7,7 +7,8 @@ use vc_top::Status;
 
 /// The frames of two pictures of 16 by 16 samples of 128: an I frame, and the P frame behind it.
 const FRAMES: &[u8; 96] =
-    b"OOOO\xff\xff\xff\xff\0\0\0\x04\0\0\0\x10\0\0\0\x10\0\x08\x04\0\0\0\0\0\0\0\0\0\0\0\0\0\0\0\0\0\0\0\0\x04\0\x06\0\x0fOOOO\xff\xff\xff\xff\0\0\0\x04\0\0\0\x10\0\0\0\x10\0\x28\0\0\0\0\0\0\0\0\0\0\0\0\0\0\0\0\0\0\0\0\0\x04\0\x06\0\x0f";
+    b"OOOO\xff\xff\xff\xff\0\0\0\x04\0\0\0\x10\0\0\0\x10\0\x08\x04\0\0\0\0\0\0\0\0\0\0\0\0\0\0\0\0\0\0\0\0\x04\0\x06\0\x0f\
+        OOOO\xff\xff\xff\xff\0\0\0\x04\0\0\0\x10\0\0\0\x10\0\x28\0\0\0\0\0\0\0\0\0\0\0\0\0\0\0\0\0\0\0\0\0\x04\0\x06\0\x0f";
 
 /// So many bytes 128, how many bytes of the frames come of them, and how the encoding ends: two pictures; one picture
 /// and a part of another; none.

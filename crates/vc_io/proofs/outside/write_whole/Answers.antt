@@ -5,7 +5,10 @@ use Rattle.vc_io.proofs.outside.write_whole.Goals as goal
 
 pub loop-rest-preserved : goal.loop-rest-preserved
 loop-rest-preserved g c =
-    let w = wrote_more (g.K.Sink.written c.args.sink.now) (g.K.Sink.written c.loop-rest.sink) (g.K.Sink.written c.write.new.self) c.args.bytes.now c.loop-rest.rest.now c.in_ok-count.count (g.K.Sink.faults c.args.sink.now) (g.K.Sink.faults c.loop-rest.sink) (g.K.Sink.faults c.write.new.self) c.loop-rest.invariant c.in_ok-count.ensures.bound c.in_ok-count.ensures.bytes c.in_ok-count.ensures.cause.never_falls in
+    let w =
+    wrote_more (g.K.Sink.written c.args.sink.now) (g.K.Sink.written c.loop-rest.sink) (g.K.Sink.written c.write.new.self) c.args.bytes.now
+    c.loop-rest.rest.now c.in_ok-count.count (g.K.Sink.faults c.args.sink.now) (g.K.Sink.faults c.loop-rest.sink) (g.K.Sink.faults c.write.new.self)
+    c.loop-rest.invariant c.in_ok-count.ensures.bound c.in_ok-count.ensures.bytes c.in_ok-count.ensures.cause.never_falls in
     record {
       count = w.count;
       within = w.within;

@@ -15,14 +15,19 @@ loop-picture-init g c = record {
 pub returns-then-is_err-clause-front : goal.returns-then-is_err-clause-front
 returns-then-is_err-clause-front g c =
     let here : AppendsFront (g.K.Sink.written c.loop-picture.sink) (g.K.Sink.written c.write_picture.new.sink) (picture_bytes c.args.format.now c.loop-picture.picture c.args.number) = search rules in
-    front_written c.args.format.now.fourcc c.args.format.now.width c.args.format.now.height c.args.number c.loop-picture.picture c.args.pictures (g.K.Sink.written c.args.sink.now) (g.K.Sink.written c.loop-picture.sink) (g.K.Sink.written c.write_picture.new.sink) (omega arith) c.loop-picture.invariant.written here
+    front_written c.args.format.now.fourcc c.args.format.now.width c.args.format.now.height c.args.number c.loop-picture.picture c.args.pictures
+    (g.K.Sink.written c.args.sink.now) (g.K.Sink.written c.loop-picture.sink) (g.K.Sink.written c.write_picture.new.sink) (omega arith)
+    c.loop-picture.invariant.written here
 
 pub loop-picture-preserved : goal.loop-picture-preserved
 loop-picture-preserved g c =
     let here : Appends (g.K.Sink.written c.loop-picture.sink) (g.K.Sink.written c.write_picture.new.sink) (picture_bytes c.args.format.now c.loop-picture.picture c.args.number) = search rules in
     let kept : g.K.Sink.faults c.loop-picture.sink ≤ g.K.Sink.faults c.write_picture.new.sink = c.write_picture.ensures.cause.never_falls in
     record {
-      written = more_written c.args.format.now.fourcc c.args.format.now.width c.args.format.now.height c.args.number c.loop-picture.picture (g.K.Sink.written c.args.sink.now) (g.K.Sink.written c.loop-picture.sink) (g.K.Sink.written c.write_picture.new.sink) c.loop-picture.invariant.written here;
+      written =
+          more_written c.args.format.now.fourcc c.args.format.now.width c.args.format.now.height c.args.number c.loop-picture.picture
+          (g.K.Sink.written c.args.sink.now) (g.K.Sink.written c.loop-picture.sink) (g.K.Sink.written c.write_picture.new.sink)
+          c.loop-picture.invariant.written here;
       later = omega arith;
       long = search rules;
     }

@@ -1,4 +1,4 @@
-use Rattle.vc_top.proofs.Made.{claim_text_line}
+use Rattle.vc_top.proofs.LinesFromSteps.{claim_text_line}
 use Rattle.vc_top.proofs.carry.claim_line.Goals as goal
 
 pub returns-clause-made : goal.returns-clause-made

@@ -1,4 +1,4 @@
-use Rattle.vc_top.proofs.Made.{finish_text_line}
+use Rattle.vc_top.proofs.LinesFromSteps.{finish_text_line}
 use Rattle.vc_top.proofs.carry.finish_line.Goals as goal
 
 pub returns-clause-made : goal.returns-clause-made

@@ -1,6 +1,6 @@
 use Rattle.std.proofs.Common.{◌++◌, ◌≤◌, take, arith, length-append, length-take}
 use Rattle.std.proofs.lemmas.Grind.{common_steps}
-use Rattle.vc_top.proofs.Reading.{consumes_both}
+use Rattle.vc_top.proofs.ReadsJoin.{consumes_both}
 use Rattle.vc_top.proofs.input.read_script.Goals as goal
 
 pub returns-then-is_err-clause-stopped : goal.returns-then-is_err-clause-stopped
@@ -9,7 +9,17 @@ returns-then-is_err-clause-stopped g c =
     record {
       bytes = c.reading.script.items ++ take c.in-Ok.count c.read.new.buf;
       read = consumes_both _ _ _ _ _ c.reading.invariant.0 c.in-Ok.ensures.bytes.0;
-      short = omega (arith, length-append c.reading.script.items (take c.in-Ok.count c.read.new.buf), length-take c.in-Ok.count c.read.new.buf, c.reading.script.ok.0, c.in-Ok.ensures.bound, c.reading-test.true, c.min-room.ensures, c.len-in-reading.ensures);
+      short =
+          omega (
+            arith,
+            length-append c.reading.script.items (take c.in-Ok.count c.read.new.buf),
+            length-take c.in-Ok.count c.read.new.buf,
+            c.reading.script.ok.0,
+            c.in-Ok.ensures.bound,
+            c.reading-test.true,
+            c.min-room.ensures,
+            c.len-in-reading.ensures,
+          );
       long = λ e. absurd (cc);
       fault = λ e. absurd (cc);
     }

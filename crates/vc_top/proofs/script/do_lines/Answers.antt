@@ -1,10 +1,11 @@
 use Rattle.std.proofs.Common.{◌≡◌, ◌+◌, ◌<◌, ◌∙◌, length, arith, rules, sym}
-use Rattle.vc_top.proofs.SoFar.{not_begun, line_more, stopped_at, write_cause, all_done}
+use Rattle.vc_top.proofs.LinesCarriedOut.{not_begun, line_more, stopped_at, write_cause, all_done}
 use Rattle.vc_top.proofs.script.do_lines.Goals as goal
 
 pub carrying-init : goal.carrying-init
 carrying-init g c =
-    not_begun c.args.slots c.args.script.now c.args.desk.now (g.K.Sink.written c.args.sink.now) (g.E.Engine.run_count c.args.engine.now) (g.E.Engine.fault_count c.args.engine.now) (g.K.Sink.faults c.args.sink.now) c.requires.desk c.requires.steps
+    not_begun c.args.slots c.args.script.now c.args.desk.now (g.K.Sink.written c.args.sink.now) (g.E.Engine.run_count c.args.engine.now)
+    (g.E.Engine.fault_count c.args.engine.now) (g.K.Sink.faults c.args.sink.now) c.requires.desk c.requires.steps
 
 pub overflow_add-number : goal.overflow_add-number
 overflow_add-number g c =
@@ -23,17 +24,35 @@ do_line-requires-clause-counts g c =
 
 pub carrying-preserved : goal.carrying-preserved
 carrying-preserved g c =
-    rw c.either-faulted.ensures (line_more c.args.slots c.args.script.now c.carrying.rest.now c.next_line.result.1.now c.next_line.result.0.now c.carrying.number c.carrying.faulted c.in-Ok.fault c.carrying.desk c.do_line.new.desk (g.K.Sink.written c.args.sink.now) (g.K.Sink.written c.carrying.sink) (g.K.Sink.written c.do_line.new.sink) (g.E.Engine.run_count c.args.engine.now) (g.E.Engine.run_count c.carrying.engine) (g.E.Engine.run_count c.do_line.new.engine) (g.E.Engine.fault_count c.args.engine.now) (g.E.Engine.fault_count c.carrying.engine) (g.E.Engine.fault_count c.do_line.new.engine) (g.K.Sink.faults c.args.sink.now) (g.K.Sink.faults c.carrying.sink) (g.K.Sink.faults c.do_line.new.sink) c.carrying.invariant c.next_line.ensures.first c.next_line.ensures.shorter c.in-Ok.ensures.done c.in-Ok.ensures.steps c.in-Ok.ensures.sink_later)
+    rw c.either-faulted.ensures
+    (line_more c.args.slots c.args.script.now c.carrying.rest.now c.next_line.result.1.now c.next_line.result.0.now c.carrying.number
+    c.carrying.faulted c.in-Ok.fault c.carrying.desk c.do_line.new.desk (g.K.Sink.written c.args.sink.now) (g.K.Sink.written c.carrying.sink)
+    (g.K.Sink.written c.do_line.new.sink) (g.E.Engine.run_count c.args.engine.now) (g.E.Engine.run_count c.carrying.engine)
+    (g.E.Engine.run_count c.do_line.new.engine) (g.E.Engine.fault_count c.args.engine.now) (g.E.Engine.fault_count c.carrying.engine)
+    (g.E.Engine.fault_count c.do_line.new.engine) (g.K.Sink.faults c.args.sink.now) (g.K.Sink.faults c.carrying.sink)
+    (g.K.Sink.faults c.do_line.new.sink) c.carrying.invariant c.next_line.ensures.first c.next_line.ensures.shorter c.in-Ok.ensures.done
+    c.in-Ok.ensures.steps c.in-Ok.ensures.sink_later)
 
 pub returns-in-Err-clause-end : goal.returns-in-Err-clause-end
 returns-in-Err-clause-end g c =
-    rw c.stop_status.ensures (stopped_at c.args.slots c.args.script.now c.carrying.rest.now c.next_line.result.1.now c.next_line.result.0.now c.carrying.number c.carrying.faulted c.carrying.desk (g.K.Sink.written c.args.sink.now) (g.K.Sink.written c.carrying.sink) (g.K.Sink.written c.do_line.new.sink) (g.E.Engine.run_count c.args.engine.now) (g.E.Engine.run_count c.carrying.engine) (g.E.Engine.run_count c.do_line.new.engine) (g.E.Engine.fault_count c.args.engine.now) (g.E.Engine.fault_count c.carrying.engine) (g.E.Engine.fault_count c.do_line.new.engine) (g.K.Sink.faults c.args.sink.now) (g.K.Sink.faults c.carrying.sink) c.in-Err.stop c.carrying.invariant c.next_line.ensures.first c.in-Err.ensures.stopped c.in-Err.ensures.runs_stay c.in-Err.ensures.faults_stay)
+    rw c.stop_status.ensures
+    (stopped_at c.args.slots c.args.script.now c.carrying.rest.now c.next_line.result.1.now c.next_line.result.0.now c.carrying.number
+    c.carrying.faulted c.carrying.desk (g.K.Sink.written c.args.sink.now) (g.K.Sink.written c.carrying.sink) (g.K.Sink.written c.do_line.new.sink)
+    (g.E.Engine.run_count c.args.engine.now) (g.E.Engine.run_count c.carrying.engine) (g.E.Engine.run_count c.do_line.new.engine)
+    (g.E.Engine.fault_count c.args.engine.now) (g.E.Engine.fault_count c.carrying.engine) (g.E.Engine.fault_count c.do_line.new.engine)
+    (g.K.Sink.faults c.args.sink.now) (g.K.Sink.faults c.carrying.sink) c.in-Err.stop c.carrying.invariant c.next_line.ensures.first
+    c.in-Err.ensures.stopped c.in-Err.ensures.runs_stay c.in-Err.ensures.faults_stay)
 
 pub returns-clause-end : goal.returns-clause-end
 returns-clause-end g c =
     let empty : length c.carrying.rest.now ≡ 0 = search rules in
-    rw c.end_status.ensures (all_done c.args.slots c.args.script.now c.carrying.rest.now c.carrying.number c.carrying.faulted c.carrying.desk (g.K.Sink.written c.args.sink.now) (g.K.Sink.written c.carrying.sink) (g.E.Engine.run_count c.args.engine.now) (g.E.Engine.run_count c.carrying.engine) (g.E.Engine.fault_count c.args.engine.now) (g.E.Engine.fault_count c.carrying.engine) (g.K.Sink.faults c.args.sink.now) (g.K.Sink.faults c.carrying.sink) c.carrying.invariant empty)
+    rw c.end_status.ensures
+    (all_done c.args.slots c.args.script.now c.carrying.rest.now c.carrying.number c.carrying.faulted c.carrying.desk
+    (g.K.Sink.written c.args.sink.now) (g.K.Sink.written c.carrying.sink) (g.E.Engine.run_count c.args.engine.now)
+    (g.E.Engine.run_count c.carrying.engine) (g.E.Engine.fault_count c.args.engine.now) (g.E.Engine.fault_count c.carrying.engine)
+    (g.K.Sink.faults c.args.sink.now) (g.K.Sink.faults c.carrying.sink) c.carrying.invariant empty)
 
 pub returns-in-Err-clause-write : goal.returns-in-Err-clause-write
 returns-in-Err-clause-write g c = λ e.
-    write_cause c.in-Err.stop (c.carrying.number + 1) (g.K.Sink.faults c.args.sink.now) (g.K.Sink.faults c.carrying.sink) (g.K.Sink.faults c.do_line.new.sink) (sym c.stop_status.ensures ∙ e) c.in-Err.ensures.write c.carrying.invariant.sink_later
+    write_cause c.in-Err.stop (c.carrying.number + 1) (g.K.Sink.faults c.args.sink.now) (g.K.Sink.faults c.carrying.sink)
+    (g.K.Sink.faults c.do_line.new.sink) (sym c.stop_status.ensures ∙ e) c.in-Err.ensures.write c.carrying.invariant.sink_later

@@ -1,5 +1,5 @@
 use Rattle.std.specs.Str.Lines.{lines}
-use Rattle.vc_top.proofs.SoFar.{none_written}
+use Rattle.vc_top.proofs.LinesCarriedOut.{none_written}
 use Rattle.vc_top.proofs.script.run_lines.Goals as goal
 
 pub returns-in-Err-clause-end : goal.returns-in-Err-clause-end

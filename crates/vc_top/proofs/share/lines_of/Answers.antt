@@ -2,7 +2,7 @@ use Rattle.std.proofs.Common.{◌≡◌, ℕ, ◌++◌, length, get_or, inr, ref
 use Rattle.std.specs.Prelude.{Ok, Err}
 use Rattle.std.proofs.lemmas.Option.{slice_get_read}
 use Rattle.vc_top.specs.Shares.{end_line}
-use Rattle.vc_top.proofs.Sharing.{AreLinesSoFar, none_so_far, more_so_far, all_lines, all_tallied, failed_here}
+use Rattle.vc_top.proofs.SharingEnds.{AreLinesSoFar, none_so_far, more_so_far, all_lines, all_tallied, failed_here}
 use Rattle.vc_top.proofs.share.lines_of.Goals.{in-Some-Ok+in-Ok, in-None}
 use Rattle.vc_top.proofs.share.lines_of.Goals as goal
 

@@ -1,4 +1,4 @@
-use Rattle.vc_top.proofs.Sharing.{AreLinesSoFar}
+use Rattle.vc_top.proofs.SharingEnds.{AreLinesSoFar}
 use Rattle.vc_top.proofs.share.lines_of.Given as goal
 
 abbrev pub invariant-loop-context : goal.invariant-loop-context

@@ -1,4 +1,5 @@
--- A raw format is one that a device sets as it is asked for.
+-- A raw format is one that a device sets as it is asked for. Its fourcc is one of the four that are listed, and a legal size is
+-- the nearest one to itself, so setting the format changes neither.
 use Rattle.std.proofs.Common.{◌≡◌, ◌∙◌, sym, ap, refl, subst, ℕ, ◌%◌, ◌≤◌, inl, inr, [], ◌∷◌, arith}
 use Rattle.std.specs.Prelude.{◌⊎◌, true}
 use Rattle.std.proofs.lemmas.Bool.{and_parts}

@@ -1,4 +1,5 @@
--- What a claim and a finish on a desk came to.
+-- What a claim and a finish on a desk came to: none for a worker that is busy, or idle, and else one step of the device with the
+-- job that the desk keeps for the worker.
 use Rattle.std.proofs.Common.{ℕ, zero, suc, ◌≡◌, ◌<◌, true, false, is_some, Option, Some, None, List, [], ◌∷◌, ◌++◌, length, get_or, set, refl, sym, ap, ◌∙◌, subst, arith}
 use Rattle.std.proofs.lemmas.Bool.{false≢true, true≢false}
 use Rattle.vc_base.specs.Device.{DeviceEvent, claim, finish}
@@ -16,7 +17,7 @@ use Rattle.vc_core.specs.declared.job.Finished.{Finished as Brought}
 use Rattle.vc_script.specs.Texts.{claim_text, no_claim_text, busy_text, finish_text, idle_text}
 use Rattle.vc_top.specs.declared.desk.Desk.{Desk}
 use Rattle.vc_top.specs.Desks.{HasData, after, IsKeptJob, IsAt, IsDesk, ClaimDone, was_busy, was_empty, took, FinishDone, was_idle, ended}
-use Rattle.vc_top.proofs.Transitions.{worker_same, claim_took, claim_empty, finish_is_of, is_of_worker, finish_made, same_word}
+use Rattle.vc_top.proofs.StepsKeepDesks.{worker_same, claim_took, claim_empty, finish_is_of, is_of_worker, finish_made, same_word}
 
 kept_busy : (d : DeviceState) (worker : ℕ) (o : Option Job) → IsKeptJob d worker o → is_some o ≡ true → (k : ℕ) × (job_of d worker ≡ Some k)
 kept_busy d worker None h e = absurd (false≢true e)
@@ -34,7 +35,9 @@ busy_done n history worker desk at l e =
     let k = kept_busy (after n history) worker (get_or desk.jobs.items worker None) (at.kept worker l) e in
     was_busy k.0 k.1 at
 
-pub free_worker : (n : ℕ) (history : List DeviceEvent) (core : CoreState) (holds : List HoldState) (jobs : List (Option Job)) (worker : ℕ) → IsAt n history core holds jobs → worker < 16 → is_some (get_or jobs worker None) ≡ false → job_of core worker ≡ None
+pub free_worker :
+    (n : ℕ) (history : List DeviceEvent) (core : CoreState) (holds : List HoldState) (jobs : List (Option Job)) (worker : ℕ)
+    → IsAt n history core holds jobs → worker < 16 → is_some (get_or jobs worker None) ≡ false → job_of core worker ≡ None
 free_worker n history core holds jobs worker at l e =
     worker_same core (after n history) worker at.stands l ∙ kept_free (after n history) worker (get_or jobs worker None) (at.kept worker l) (none_kept (get_or jobs worker None) e)
 
@@ -43,10 +46,16 @@ nothing_waits [] o h = refl
 nothing_waits (k ∷ rest) None h = absurd h
 nothing_waits (k ∷ rest) (Some j) h = absurd h
 
-pub empty_done : (n : ℕ) (history : List DeviceEvent) (worker : ℕ) (core now : CoreState) (holds : List HoldState) (jobs : List (Option Job)) (desk : Desk) → desk.core ≡ now → desk.holds.items ≡ holds → desk.jobs.items ≡ jobs → IsAt n history core holds jobs → worker < 16 → is_some (get_or jobs worker None) ≡ false → IsClaim core.waiting (claimed_job core) None → now ≡ (core_claim core worker).device → ClaimDone n history worker desk false no_claim_text
+pub empty_done :
+    (n : ℕ) (history : List DeviceEvent) (worker : ℕ) (core now : CoreState) (holds : List HoldState) (jobs : List (Option Job)) (desk : Desk)
+    → desk.core ≡ now → desk.holds.items ≡ holds → desk.jobs.items ≡ jobs → IsAt n history core holds jobs → worker < 16
+    → is_some (get_or jobs worker None) ≡ false → IsClaim core.waiting (claimed_job core) None → now ≡ (core_claim core worker).device
+    → ClaimDone n history worker desk false no_claim_text
 empty_done n history worker core now holds jobs desk e1 e2 e3 at l e is step =
     let made = claim_empty n history core now holds jobs worker at l (free_worker n history core holds jobs worker at l e) (none_kept (get_or jobs worker None) e) (nothing_waits core.waiting (claimed_job core) is) step in
-    was_empty made.was_free made.waited made.reply (subst (λ c. IsAt n (history ++ claim worker ∷ []) c desk.holds.items desk.jobs.items) (sym e1) (subst (λ h. IsAt n (history ++ claim worker ∷ []) now h desk.jobs.items) (sym e2) (subst (IsAt n (history ++ claim worker ∷ []) now holds) (sym e3) made.at)))
+    was_empty made.was_free made.waited made.reply
+    (subst (λ c. IsAt n (history ++ claim worker ∷ []) c desk.holds.items desk.jobs.items) (sym e1)
+    (subst (λ h. IsAt n (history ++ claim worker ∷ []) now h desk.jobs.items) (sym e2) (subst (IsAt n (history ++ claim worker ∷ []) now holds) (sym e3) made.at)))
 
 record Claims (core : CoreState) (job : Job) : Type 0 where
   pub k : ℕ
@@ -62,18 +71,32 @@ claims_of core job (k ∷ rest) None e f h = absurd h
 claims_of core job (k ∷ rest) (Some j) e f h =
     record { k = k; rest = rest; j = j; waits = e; claimed = f; is_job = h }
 
-pub took_done : (n : ℕ) (history : List DeviceEvent) (worker slot : ℕ) (core now : CoreState) (holds : List HoldState) (jobs : List (Option Job)) (job : Job) (desk : Desk) → desk.core ≡ now → desk.holds.items ≡ holds → desk.jobs.items ≡ set jobs worker (Some job) → IsAt n history core holds jobs → worker < 16 → is_some (get_or jobs worker None) ≡ false → IsClaim core.waiting (claimed_job core) (Some job) → now ≡ (core_claim core worker).device → length now.slots ≡ length core.slots → ((i : ℕ) (hold : HoldState) → FitsSlot (slot_of core i) hold → FitsSlot (slot_of now i) hold) → length now.workers ≡ length core.workers → ((k : ℕ) (j : JobData) → IsJobOf k j job → slot ≡ k) → ClaimDone n history worker desk true (claim_text slot)
+pub took_done :
+    (n : ℕ) (history : List DeviceEvent) (worker slot : ℕ) (core now : CoreState) (holds : List HoldState) (jobs : List (Option Job)) (job : Job) (desk : Desk)
+    → desk.core ≡ now → desk.holds.items ≡ holds → desk.jobs.items ≡ set jobs worker (Some job) → IsAt n history core holds jobs → worker < 16
+    → is_some (get_or jobs worker None) ≡ false → IsClaim core.waiting (claimed_job core) (Some job) → now ≡ (core_claim core worker).device
+    → length now.slots ≡ length core.slots → ((i : ℕ) (hold : HoldState) → FitsSlot (slot_of core i) hold → FitsSlot (slot_of now i) hold)
+    → length now.workers ≡ length core.workers → ((k : ℕ) (j : JobData) → IsJobOf k j job → slot ≡ k)
+    → ClaimDone n history worker desk true (claim_text slot)
 took_done n history worker slot core now holds jobs job desk e1 e2 e3 at l e is step size keeps crew named =
     let claims = claims_of core job core.waiting (claimed_job core) refl refl is in
     let made = claim_took n history core now holds jobs worker claims.k claims.rest claims.j job at l (free_worker n history core holds jobs worker at l e) claims.waits claims.claimed claims.is_job step size keeps crew in
-    let at2 = subst (λ c. IsAt n (history ++ claim worker ∷ []) c desk.holds.items desk.jobs.items) (sym e1) (subst (λ h. IsAt n (history ++ claim worker ∷ []) now h desk.jobs.items) (sym e2) (subst (IsAt n (history ++ claim worker ∷ []) now holds) (sym e3) made.at)) in
+    let at2 =
+    subst (λ c. IsAt n (history ++ claim worker ∷ []) c desk.holds.items desk.jobs.items) (sym e1)
+    (subst (λ h. IsAt n (history ++ claim worker ∷ []) now h desk.jobs.items) (sym e2) (subst (IsAt n (history ++ claim worker ∷ []) now holds) (sym e3) made.at)) in
     subst (λ s. ClaimDone n history worker desk true (claim_text s)) (sym (named claims.k claims.j claims.is_job)) (took claims.k made.rest made.was_free made.waited made.reply at2 made.has)
 
 -- Finishes
 
-pub idle_done : (n : ℕ) (history : List DeviceEvent) (worker runs faults : ℕ) (core : CoreState) (holds : List HoldState) (jobs : List (Option Job)) (desk : Desk) → desk.core ≡ core → desk.holds.items ≡ holds → desk.jobs.items ≡ set jobs worker None → IsAt n history core holds jobs → worker < 16 → get_or jobs worker None ≡ None → FinishDone n history worker desk runs runs faults faults false idle_text
+pub idle_done :
+    (n : ℕ) (history : List DeviceEvent) (worker runs faults : ℕ) (core : CoreState) (holds : List HoldState) (jobs : List (Option Job)) (desk : Desk)
+    → desk.core ≡ core → desk.holds.items ≡ holds → desk.jobs.items ≡ set jobs worker None → IsAt n history core holds jobs → worker < 16
+    → get_or jobs worker None ≡ None → FinishDone n history worker desk runs runs faults faults false idle_text
 idle_done n history worker runs faults core holds jobs desk e1 e2 e3 at l e =
-    was_idle (kept_free (after n history) worker (get_or jobs worker None) (at.kept worker l) e) (subst (λ c. IsAt n history c desk.holds.items desk.jobs.items) (sym e1) (subst (λ h. IsAt n history core h desk.jobs.items) (sym e2) (subst (IsAt n history core holds) (sym (e3 ∙ set_same jobs worker e)) at))) (omega arith) (omega arith)
+    was_idle (kept_free (after n history) worker (get_or jobs worker None) (at.kept worker l) e)
+    (subst (λ c. IsAt n history c desk.holds.items desk.jobs.items) (sym e1)
+    (subst (λ h. IsAt n history core h desk.jobs.items) (sym e2) (subst (IsAt n history core holds) (sym (e3 ∙ set_same jobs worker e)) at)))
+    (omega arith) (omega arith)
   where
     set_same : (js : List (Option Job)) (i : ℕ) → get_or js i None ≡ None → set js i None ≡ js
     set_same [] i q = refl
@@ -91,13 +114,26 @@ holds_of : (n : ℕ) (history : List DeviceEvent) (worker : ℕ) (o : Option Job
 holds_of n history worker o job h e =
     let g = subst (IsKeptJob (after n history) worker) e h in record { k = g.0; j = g.1; has = g.2; is_job = g.3 }
 
-pub finish_of_worker : (n : ℕ) (history : List DeviceEvent) (worker : ℕ) (core : CoreState) (holds : List HoldState) (jobs : List (Option Job)) (job : Job) (finished : Brought) → IsAt n history core holds jobs → worker < 16 → get_or jobs worker None ≡ Some job → ((k : ℕ) (j : JobData) → IsJobOf k j job → Brings k (brought_back the_coder j (is_fault finished)) finished) → IsOfWorker core worker finished
+pub finish_of_worker :
+    (n : ℕ) (history : List DeviceEvent) (worker : ℕ) (core : CoreState) (holds : List HoldState) (jobs : List (Option Job)) (job : Job) (finished : Brought)
+    → IsAt n history core holds jobs → worker < 16 → get_or jobs worker None ≡ Some job
+    → ((k : ℕ) (j : JobData) → IsJobOf k j job → Brings k (brought_back the_coder j (is_fault finished)) finished) → IsOfWorker core worker finished
 finish_of_worker n history worker core holds jobs job finished at l e run =
     let h = holds_of n history worker (get_or jobs worker None) job (at.kept worker l) e in
     let b = run h.k h.j h.is_job in
     is_of_worker core worker h.k (brought_back the_coder h.j (is_fault finished)) finished (finish_is_of n history core holds jobs worker h.k h.j finished (is_fault finished) at l h.has b) b
 
-pub ended_done : (n : ℕ) (history : List DeviceEvent) (worker slot runs runs' faults faults' : ℕ) (word : List ℕ) (core now : CoreState) (holds : List HoldState) (jobs : List (Option Job)) (job : Job) (finished : Brought) (desk : Desk) → desk.core ≡ now → desk.holds.items ≡ holds → desk.jobs.items ≡ set jobs worker None → IsAt n history core holds jobs → worker < 16 → get_or jobs worker None ≡ Some job → ((k : ℕ) (j : JobData) → IsJobOf k j job → Brings k (brought_back the_coder j (is_fault finished)) finished) → ((k : ℕ) (j : JobData) → IsJobOf k j job → slot ≡ k) → ((k : ℕ) (back : BroughtBack) → Brings k back finished → word ≡ word_of back) → ((k : ℕ) (back : BroughtBack) → HasJob core worker k back.job → Brings k back finished → now ≡ (core_finish core worker back).device) → length now.slots ≡ length core.slots → ((i : ℕ) (hold : HoldState) → FitsSlot (slot_of core i) hold → FitsSlot (slot_of now i) hold) → length now.workers ≡ length core.workers → Tells (is_fault finished) runs runs' faults faults' → FinishDone n history worker desk runs runs' faults faults' (is_fault finished) (finish_text slot word)
+pub ended_done :
+    (n : ℕ) (history : List DeviceEvent) (worker slot runs runs' faults faults' : ℕ) (word : List ℕ) (core now : CoreState) (holds : List HoldState)
+    (jobs : List (Option Job)) (job : Job) (finished : Brought) (desk : Desk)
+    → desk.core ≡ now → desk.holds.items ≡ holds → desk.jobs.items ≡ set jobs worker None → IsAt n history core holds jobs → worker < 16
+    → get_or jobs worker None ≡ Some job
+    → ((k : ℕ) (j : JobData) → IsJobOf k j job → Brings k (brought_back the_coder j (is_fault finished)) finished)
+    → ((k : ℕ) (j : JobData) → IsJobOf k j job → slot ≡ k) → ((k : ℕ) (back : BroughtBack) → Brings k back finished → word ≡ word_of back)
+    → ((k : ℕ) (back : BroughtBack) → HasJob core worker k back.job → Brings k back finished → now ≡ (core_finish core worker back).device)
+    → length now.slots ≡ length core.slots → ((i : ℕ) (hold : HoldState) → FitsSlot (slot_of core i) hold → FitsSlot (slot_of now i) hold)
+    → length now.workers ≡ length core.workers → Tells (is_fault finished) runs runs' faults faults'
+    → FinishDone n history worker desk runs runs' faults faults' (is_fault finished) (finish_text slot word)
 ended_done n history worker slot runs runs' faults faults' word core now holds jobs job finished desk e1 e2 e3 at l e run named worded step size keeps crew tells =
     let fault = is_fault finished in
     let h = holds_of n history worker (get_or jobs worker None) job (at.kept worker l) e in
@@ -105,7 +141,9 @@ ended_done n history worker slot runs runs' faults faults' word core now holds j
     let b = run h.k h.j h.is_job in
     let has = finish_is_of n history core holds jobs worker h.k h.j finished fault at l h.has b in
     let made = finish_made n history core now holds jobs worker h.k h.j fault at l h.has has (step h.k back has b) size keeps crew in
-    let at2 = subst (λ c. IsAt n (history ++ finish worker fault ∷ []) c desk.holds.items desk.jobs.items) (sym e1) (subst (λ x. IsAt n (history ++ finish worker fault ∷ []) now x desk.jobs.items) (sym e2) (subst (IsAt n (history ++ finish worker fault ∷ []) now holds) (sym e3) made.at)) in
+    let at2 =
+    subst (λ c. IsAt n (history ++ finish worker fault ∷ []) c desk.holds.items desk.jobs.items) (sym e1)
+    (subst (λ x. IsAt n (history ++ finish worker fault ∷ []) now x desk.jobs.items) (sym e2) (subst (IsAt n (history ++ finish worker fault ∷ []) now holds) (sym e3) made.at)) in
     let text : finish_text slot word ≡ finish_text h.k (finish_word the_coder h.j fault) = ap (λ s. finish_text s word) (named h.k h.j h.is_job) ∙ ap (finish_text h.k) (worded h.k back b ∙ same_word h.j fault) in
     subst (FinishDone n history worker desk runs runs' faults faults' fault) (sym text) (ended h.k h.k h.j fault made.had made.reply at2 tells)
 

@@ -1,5 +1,8 @@
--- What is put into a held payload before a call, and what the call makes of it.
-use Rattle.std.proofs.Common.{ℕ, zero, suc, ◌≡◌, ◌<◌, ◌≤◌, ◌+◌, ◌==◌, eqb, nat_lt, nat_le, Bool, true, false, cond, not, Option, Some, None, List, [], ◌∷◌, ◌++◌, length, take, drop, filter, get_or, set, refl, sym, ap, ◌∙◌, subst, arith, get_or-set_same, get_or-set_other, length-append, length-drop}
+-- What is put into a held payload before a call, and what the call makes of it. Only a QBuf on OUTPUT whose buffer is held and has
+-- room is filled, and the lengths of payloads stay, so what was held still fits its slot.
+use Rattle.std.proofs.Common.{ℕ, zero, suc, ◌≡◌, ◌<◌, ◌≤◌, ◌+◌, ◌==◌, eqb, nat_lt, nat_le, Bool, true, false, cond, not, Option, Some, None, List, [], ◌∷◌}
+use Rattle.std.proofs.Common.{◌++◌, length, take, drop, filter, get_or, set, refl, sym, ap, ◌∙◌, subst, arith, get_or-set_same, get_or-set_other, length-append}
+use Rattle.std.proofs.Common.{length-drop}
 use Rattle.std.specs.Option.{option_map}
 use Rattle.std.proofs.Math.Seq.{take-append_seam}
 use Rattle.std.proofs.lemmas.Bool.{eqb-true, eqb-false, ltb-true, false≢true}
@@ -16,7 +19,7 @@ use Rattle.vc_model.specs.Answer.{Answer, refused, answered, unless, is_no_whole
 use Rattle.vc_model.specs.CoreSound.{IsSoundInCore, IsSoundCoreSlot}
 use Rattle.vc_model.specs.Sound.{count_index, OnceEach}
 use Rattle.vc_model.specs.Script.{HasUsedBytes}
-use Rattle.vc_model.proofs.Queues.{count_parts}
+use Rattle.vc_model.proofs.QueuesKeepSound.{count_parts}
 use Rattle.vc_queue.specs.Holds.{HoldState, held_payload, with_payload, written_over, Fits}
 use Rattle.vc_queue.specs.Answers.{queued_bytes}
 use Rattle.vc_queue.specs.Cells.{bytes_or_none}
@@ -33,9 +36,12 @@ there [] i p e = absurd (cc)
 there (x ∷ xs) zero p e = omega arith
 there (x ∷ xs) (suc i) p e = let h = there xs i p e in omega arith
 
-at_place : (xs : List (Option (List ℕ))) (i k : ℕ) (p new : List ℕ) → get_or xs i None ≡ Some p → length new ≡ length p → (b : Bool) → eqb i k ≡ b → option_map length (get_or (set xs i (Some new)) k None) ≡ option_map length (get_or xs k None)
+at_place :
+    (xs : List (Option (List ℕ))) (i k : ℕ) (p new : List ℕ) → get_or xs i None ≡ Some p → length new ≡ length p → (b : Bool) → eqb i k ≡ b
+    → option_map length (get_or (set xs i (Some new)) k None) ≡ option_map length (get_or xs k None)
 at_place xs i k p new e l true q =
-    subst (λ y. option_map length (get_or (set xs i (Some new)) y None) ≡ option_map length (get_or xs y None)) (eqb-true i k q) (ap (option_map length) (get_or-set_same xs i (Some new) None (there xs i p e)) ∙ (ap Some l ∙ sym (ap (option_map length) e)))
+    subst (λ y. option_map length (get_or (set xs i (Some new)) y None) ≡ option_map length (get_or xs y None)) (eqb-true i k q)
+    (ap (option_map length) (get_or-set_same xs i (Some new) None (there xs i p e)) ∙ (ap Some l ∙ sym (ap (option_map length) e)))
 at_place xs i k p new e l false q =
     ap (option_map length) (get_or-set_other xs i k (Some new) None (λ (z : k ≡ i). eqb-false i k q (sym z)))
 
@@ -125,7 +131,14 @@ queue_answer c index o used stamp bytes =
 
 too_short : (c : Context) (index : ℕ) (b : Buffer) (used : ℕ) (stamp : Stamp) (bytes : List ℕ) → c.out.side ≡ Out → nat_lt b.size used ≡ true → queue_answer c index (Some b) used stamp bytes ≡ refused c Inval
 too_short c index b used stamp bytes side e =
-    ap (λ s. unless c (held_refusal s (Some b) used (sizeimage c Out)) (unless c (refuse_if (is_no_whole_picture c Out used) Inval None) (answered (with_queue c Out (queue_held c.out index (Some b) used stamp bytes)) Done))) side ∙ ap (λ t. unless c (refuse_if t Inval (refuse_if (nat_lt b.size (sizeimage c Out)) Inval None)) (unless c (refuse_if (is_no_whole_picture c Out used) Inval None) (answered (with_queue c Out (queue_held c.out index (Some b) used stamp bytes)) Done))) e
+    ap (λ s.
+    unless c (held_refusal s (Some b) used (sizeimage c Out))
+    (unless c (refuse_if (is_no_whole_picture c Out used) Inval None) (answered (with_queue c Out (queue_held c.out index (Some b) used stamp bytes)) Done)))
+    side
+    ∙ ap (λ t.
+    unless c (refuse_if t Inval (refuse_if (nat_lt b.size (sizeimage c Out)) Inval None))
+    (unless c (refuse_if (is_no_whole_picture c Out used) Inval None) (answered (with_queue c Out (queue_held c.out index (Some b) used stamp bytes)) Done)))
+    e
 
 not_le : (a b : ℕ) → nat_le a b ≡ false → nat_lt b a ≡ true
 not_le a b e = grind arith
@@ -134,37 +147,53 @@ written_bytes : (xs : List (Option (List ℕ))) (i : ℕ) (bytes p : List ℕ) �
 written_bytes xs i bytes p e =
     ap (λ o. take (length bytes) (bytes_or_none o)) (get_or-set_same xs i (Some (bytes ++ drop (length bytes) p)) None (there xs i p e)) ∙ take-append_seam bytes (drop (length bytes) p)
 
-room_same : (c : Context) (index used : ℕ) (stamp : Stamp) (bytes : List ℕ) (hold : HoldState) (b : Buffer) (p : List ℕ) → length bytes ≡ used → c.out.side ≡ Out → held_payload hold Out index ≡ Some p → length p ≡ b.size → (t : Bool) → has_room (Some p) bytes ≡ t → queue_answer c index (Some b) used stamp (queued_bytes Out (cond t (with_payload hold Out index (written_over (Some p) bytes)) hold) index used) ≡ queue_answer c index (Some b) used stamp bytes
+room_same :
+    (c : Context) (index used : ℕ) (stamp : Stamp) (bytes : List ℕ) (hold : HoldState) (b : Buffer) (p : List ℕ) → length bytes ≡ used
+    → c.out.side ≡ Out → held_payload hold Out index ≡ Some p → length p ≡ b.size → (t : Bool) → has_room (Some p) bytes ≡ t
+    → queue_answer c index (Some b) used stamp (queued_bytes Out (cond t (with_payload hold Out index (written_over (Some p) bytes)) hold) index used) ≡ queue_answer c index (Some b) used stamp bytes
 room_same c index used stamp bytes hold b p u side e l true r =
     ap (queue_answer c index (Some b) used stamp) (subst (λ n. take n (bytes_or_none (get_or (set hold.out index (Some (bytes ++ drop (length bytes) p))) index None)) ≡ bytes) u (written_bytes hold.out index bytes p e))
 room_same c index used stamp bytes hold b p u side e l false r =
     let short : nat_lt b.size used ≡ true = subst (λ n. nat_lt n used ≡ true) l (subst (λ n. nat_lt (length p) n ≡ true) u (not_le (length bytes) (length p) r)) in
     too_short c index b used stamp _ side short ∙ sym (too_short c index b used stamp bytes side short)
 
-payload_same : (c : Context) (index used : ℕ) (stamp : Stamp) (bytes : List ℕ) (hold : HoldState) (b : Buffer) → length bytes ≡ used → c.out.side ≡ Out → (p : Option (List ℕ)) → held_payload hold Out index ≡ p → option_map length p ≡ Some b.size → queue_answer c index (Some b) used stamp (queued_bytes Out (cond (has_room p bytes) (with_payload hold Out index (written_over p bytes)) hold) index used) ≡ queue_answer c index (Some b) used stamp bytes
+payload_same :
+    (c : Context) (index used : ℕ) (stamp : Stamp) (bytes : List ℕ) (hold : HoldState) (b : Buffer) → length bytes ≡ used → c.out.side ≡ Out
+    → (p : Option (List ℕ)) → held_payload hold Out index ≡ p → option_map length p ≡ Some b.size
+    → queue_answer c index (Some b) used stamp (queued_bytes Out (cond (has_room p bytes) (with_payload hold Out index (written_over p bytes)) hold) index used)
+    ≡ queue_answer c index (Some b) used stamp bytes
 payload_same c index used stamp bytes hold b u side None e f = absurd (cc)
 payload_same c index used stamp bytes hold b u side (Some p) e f =
     let l : length p ≡ b.size = cc in
     room_same c index used stamp bytes hold b p u side e l (has_room (Some p) bytes) refl
 
-held_same : (c : Context) (index used : ℕ) (stamp : Stamp) (bytes : List ℕ) (hold : HoldState) → length bytes ≡ used → IsSoundInCore c → Fits c.out hold → (o : Option Buffer) → with_index index c.out.held ≡ o → queue_answer c index o used stamp (queued_bytes Out (filled_at hold index bytes) index used) ≡ queue_answer c index o used stamp bytes
+held_same :
+    (c : Context) (index used : ℕ) (stamp : Stamp) (bytes : List ℕ) (hold : HoldState) → length bytes ≡ used → IsSoundInCore c → Fits c.out hold
+    → (o : Option Buffer) → with_index index c.out.held ≡ o
+    → queue_answer c index o used stamp (queued_bytes Out (filled_at hold index bytes) index used) ≡ queue_answer c index o used stamp bytes
 held_same c index used stamp bytes hold u s f None e = refl
 held_same c index used stamp bytes hold u s f (Some b) e =
     let i = held_below c.out index b s.out.once s.fit.few_out e in
-    let p : option_map length (held_payload hold Out index) ≡ Some b.size = subst (λ side. option_map length (held_payload hold side index) ≡ option_map (λ x. x.size) (with_index index c.out.held)) s.out_side (f index i) ∙ ap (option_map (λ x. x.size)) e in
+    let p : option_map length (held_payload hold Out index) ≡ Some b.size =
+    subst (λ side. option_map length (held_payload hold side index) ≡ option_map (λ x. x.size) (with_index index c.out.held)) s.out_side (f index i) ∙ ap (option_map (λ x. x.size)) e in
     payload_same c index used stamp bytes hold b u s.out_side (held_payload hold Out index) refl p
 
 cap_same : (q : QueueState) (index : ℕ) (o : Option Buffer) (used : ℕ) (stamp : Stamp) (xs ys : List ℕ) → q.side ≡ Cap → queue_held q index o used stamp xs ≡ queue_held q index o used stamp ys
 cap_same q index None used stamp xs ys e = refl
 cap_same q index (Some b) used stamp xs ys e =
-    ap (λ d. record q { held = filter (λ h. not (h.index == index)) q.held; ready = q.ready ++ d ∷ []; next_ordinal = q.next_ordinal + 1 }) (ap (λ s. queued_buffer s b used stamp xs q.next_ordinal) e ∙ sym (ap (λ s. queued_buffer s b used stamp ys q.next_ordinal) e))
+    ap (λ d. record q { held = filter (λ h. not (h.index == index)) q.held; ready = q.ready ++ d ∷ []; next_ordinal = q.next_ordinal + 1 })
+    (ap (λ s. queued_buffer s b used stamp xs q.next_ordinal) e ∙ sym (ap (λ s. queued_buffer s b used stamp ys q.next_ordinal) e))
 
-bytes_same : (c : Context) (request : Call) (bytes : List ℕ) (hold : HoldState) (found : Bool) → HasUsedBytes request bytes → IsSoundInCore c → FitsContext c hold → context_answer c request (handed_over request (filled request bytes hold)) found ≡ context_answer c request bytes found
+bytes_same :
+    (c : Context) (request : Call) (bytes : List ℕ) (hold : HoldState) (found : Bool) → HasUsedBytes request bytes → IsSoundInCore c
+    → FitsContext c hold → context_answer c request (handed_over request (filled request bytes hold)) found ≡ context_answer c request bytes found
 unfolding context_answer
 bytes_same c (QBuf Out index used stamp) bytes hold found u s f =
     held_same c index used stamp bytes hold u s f.out (with_index index c.out.held) refl
 bytes_same c (QBuf Cap index used stamp) bytes hold found u s f =
-    ap (λ q. unless c (held_refusal c.cap.side (with_index index c.cap.held) used (sizeimage c Cap)) (unless c (refuse_if (is_no_whole_picture c Cap used) Inval None) (answered (with_queue c Cap q) Done))) (cap_same c.cap index (with_index index c.cap.held) used stamp [] bytes s.cap_side)
+    ap (λ q.
+    unless c (held_refusal c.cap.side (with_index index c.cap.held) used (sizeimage c Cap)) (unless c (refuse_if (is_no_whole_picture c Cap used) Inval None) (answered (with_queue c Cap q) Done)))
+    (cap_same c.cap index (with_index index c.cap.held) used stamp [] bytes s.cap_side)
 bytes_same c (Open kind) bytes hold found u s f = refl
 bytes_same c Close bytes hold found u s f = refl
 bytes_same c (EnumFmt side index) bytes hold found u s f = refl
@@ -186,7 +215,9 @@ bytes_same c (GetCtrl id) bytes hold found u s f = refl
 bytes_same c (SetCtrl id value) bytes hold found u s f = refl
 bytes_same c Poll bytes hold found u s f = refl
 
-pub answer_same : (s : Slot) (request : Call) (bytes : List ℕ) (hold : HoldState) (found : Bool) → HasUsedBytes request bytes → IsSoundCoreSlot s → FitsSlot s hold → answer s request (handed_over request (filled request bytes hold)) found ≡ answer s request bytes found
+pub answer_same :
+    (s : Slot) (request : Call) (bytes : List ℕ) (hold : HoldState) (found : Bool) → HasUsedBytes request bytes → IsSoundCoreSlot s → FitsSlot s hold
+    → answer s request (handed_over request (filled request bytes hold)) found ≡ answer s request bytes found
 unfolding answer
 answer_same None request bytes hold found u s f = refl
 answer_same (Some c) request bytes hold found u s f = bytes_same c request bytes hold found u s f

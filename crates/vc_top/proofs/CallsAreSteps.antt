@@ -1,5 +1,7 @@
--- What a call on a desk came to.
-use Rattle.std.proofs.Common.{ℕ, zero, suc, ◌≡◌, ◌<◌, ◌≤◌, nat_lt, eqb, eq-eqb, ltb-true, Bool, true, false, cond, ◌&&◌, is_none, is_some, Option, Some, None, List, [], ◌∷◌, ◌++◌, length, take, get_or, set, refl, sym, ap, ◌∙◌, subst, arith, get_or-set_same}
+-- What a call on a desk came to: one step of the device, whose reply is told, and payloads that still fit. The core's contract
+-- gives the step; a payload that was taken is the one that the step handed out.
+use Rattle.std.proofs.Common.{ℕ, zero, suc, ◌≡◌, ◌<◌, ◌≤◌, nat_lt, eqb, eq-eqb, ltb-true, Bool, true, false, cond, ◌&&◌, is_none, is_some, Option, Some, None}
+use Rattle.std.proofs.Common.{List, [], ◌∷◌, ◌++◌, length, take, get_or, set, refl, sym, ap, ◌∙◌, subst, arith, get_or-set_same}
 use Rattle.std.specs.Option.{option_map}
 use Rattle.std.proofs.lemmas.Bool.{false≢true}
 use Rattle.vc_base.specs.declared.Side.TheVariants.{Out, Cap}
@@ -11,12 +13,13 @@ use Rattle.vc_base.specs.declared.Call.TheVariants.{Open, Close, EnumFmt, GetFmt
 use Rattle.vc_base.specs.declared.Reply.{Reply}
 use Rattle.vc_base.specs.declared.Reply.TheVariants.{Done, Desc, Fmt, Count, Created, Info, Taken, Happened, Value, Ready, Refused, Blocked}
 use Rattle.vc_base.specs.declared.Side.{Side}
-use Rattle.vc_base.specs.Buffers.{Buffer, QueueState, with_index, is_empty, held_again, take_front, dqbuf_refusal, dqbuf_after, lend_front, lend_after, retire_from, retire_after, last_flag, zero_stamp}
+use Rattle.vc_base.specs.Buffers.{Buffer, QueueState, with_index, is_empty, held_again, take_front, dqbuf_refusal, dqbuf_after, lend_front, lend_after, retire_from, retire_after, zero_stamp}
+use Rattle.vc_base.specs.Limits.{last_flag}
 use Rattle.vc_base.specs.Device.{DeviceEvent, call}
 use Rattle.vc_model.specs.Coder.{the_coder}
 use Rattle.vc_model.specs.Context.{Context, Slot, Cause, drain, change, PhaseState, run, owe, last, stopped, is_run, is_drained, with_queue, raise_end, give_last, settle, settle_drain, settle_last}
 use Rattle.vc_model.specs.CoreSound.{IsSoundCoreSlot}
-use Rattle.vc_model.proofs.CoreSound.{cores_are_sound}
+use Rattle.vc_model.proofs.CoresAreSound.{cores_are_sound}
 use Rattle.vc_model.specs.Answer.{Answer, unless_or_block, taken_answer, after_taking, stop_at_last, is_ended, closed_answer, context_answer, answer}
 use Rattle.vc_model.specs.Solo.{Answered}
 use Rattle.vc_model.specs.Devices.{Told, slot_of, with_slot, call_answered, ignored}
@@ -29,10 +32,13 @@ use Rattle.vc_core.specs.Steps.{IsCall}
 use Rattle.vc_core.specs.declared.job.Job.{Job}
 use Rattle.vc_top.specs.declared.desk.Desk.{Desk}
 use Rattle.vc_top.specs.Desks.{IsAt, IsTaken, front_is, filled, CallDone}
-use Rattle.vc_top.proofs.Holding.{held_below}
-use Rattle.vc_top.proofs.Transitions.{call_made}
+use Rattle.vc_top.proofs.CallsOnHeldPayloads.{held_below}
+use Rattle.vc_top.proofs.StepsKeepDesks.{call_made}
 
-block_bytes : (c : Context) (o : Option Errno) (block : Bool) (a : Answer) (index used flags seq : ℕ) (stamp : Stamp) (bytes : List ℕ) → (a.reply ≡ Taken index used flags seq stamp → a.bytes ≡ bytes) → (unless_or_block c o block a).reply ≡ Taken index used flags seq stamp → (unless_or_block c o block a).bytes ≡ bytes
+block_bytes :
+    (c : Context) (o : Option Errno) (block : Bool) (a : Answer) (index used flags seq : ℕ) (stamp : Stamp) (bytes : List ℕ)
+    → (a.reply ≡ Taken index used flags seq stamp → a.bytes ≡ bytes) → (unless_or_block c o block a).reply ≡ Taken index used flags seq stamp
+    → (unless_or_block c o block a).bytes ≡ bytes
 block_bytes c None block a index used flags seq stamp bytes h e = h e
 block_bytes c (Some Again) true a index used flags seq stamp bytes h e = absurd (cc)
 block_bytes c (Some Again) false a index used flags seq stamp bytes h e = absurd (cc)
@@ -48,7 +54,10 @@ front_taken : (c : Context) (done : List Buffer) (index used flags seq : ℕ) (s
 front_taken c [] index used flags seq stamp e = absurd (cc)
 front_taken c (b ∷ rest) index used flags seq stamp e = refl
 
-taken_bytes : (s : Slot) (block : Bool) (bytes : List ℕ) (found : Bool) (index used flags seq : ℕ) (stamp : Stamp) → (answer s (DqBuf Cap block) bytes found).reply ≡ Taken index used flags seq stamp → (answer s (DqBuf Cap block) bytes found).bytes ≡ handed_out s Cap
+taken_bytes :
+    (s : Slot) (block : Bool) (bytes : List ℕ) (found : Bool) (index used flags seq : ℕ) (stamp : Stamp)
+    → (answer s (DqBuf Cap block) bytes found).reply ≡ Taken index used flags seq stamp
+    → (answer s (DqBuf Cap block) bytes found).bytes ≡ handed_out s Cap
 unfolding answer closed_answer context_answer
 taken_bytes None block bytes found index used flags seq stamp e = absurd (cc)
 taken_bytes (Some c) block bytes found index used flags seq stamp e =
@@ -59,13 +68,18 @@ set_there [] i payload p e = absurd (cc)
 set_there (x ∷ xs) zero payload p e = cc
 set_there (x ∷ xs) (suc i) payload p e = set_there xs i payload p e
 
-front_there : (used : ℕ) (handed payload : List ℕ) (xs : List (Option (List ℕ))) (i : ℕ) → used ≤ length payload → take used payload ≡ handed → (o : Option (List ℕ)) → is_some o ≡ true → get_or (set xs i (Some payload)) i None ≡ o → front_is used handed o
+front_there :
+    (used : ℕ) (handed payload : List ℕ) (xs : List (Option (List ℕ))) (i : ℕ) → used ≤ length payload → take used payload ≡ handed
+    → (o : Option (List ℕ)) → is_some o ≡ true → get_or (set xs i (Some payload)) i None ≡ o → front_is used handed o
 front_there used handed payload xs i l e None t q = absurd (false≢true t)
 front_there used handed payload xs i l e (Some p) t q =
     let same = set_there xs i payload p q in
     (subst (λ x. used ≤ length x) (sym same) l, ap (take used) same ∙ e)
 
-handed_there : (s : Slot) (index used flags seq : ℕ) (stamp : Stamp) (handed : List ℕ) (old new : HoldState) → HandsOut Cap index used flags (handed_out s Cap) old new → is_some (held_payload new Cap index) ≡ true → handed ≡ handed_out s Cap → front_is used handed (held_payload new Cap index)
+handed_there :
+    (s : Slot) (index used flags seq : ℕ) (stamp : Stamp) (handed : List ℕ) (old new : HoldState)
+    → HandsOut Cap index used flags (handed_out s Cap) old new → is_some (held_payload new Cap index) ≡ true → handed ≡ handed_out s Cap
+    → front_is used handed (held_payload new Cap index)
 handed_there s index used flags seq stamp handed old new h t e =
     let t2 : is_some (get_or (set old.cap index (Some h.payload)) index None) ≡ true = ap (λ (n : HoldState). is_some (held_payload n Cap index)) (sym h.moved) ∙ t in
     subst (λ n. front_is used handed (held_payload n Cap index)) (sym h.moved) (front_there used handed h.payload old.cap index h.room (h.begins ∙ sym e) (get_or (set old.cap index (Some h.payload)) index None) t2 refl)
@@ -144,7 +158,10 @@ front_held c (b ∷ rest) index used flags seq stamp d e =
     let held : (settle y).cap.held ≡ c.cap.held ++ held_again b ∷ [] = settled_held y ∙ (ap (λ q. q.held) (stopped_held x x.phase (is_empty x.cap.done)) ∙ ap (λ ds. (take_front c.cap ds).held) d) in
     ap (λ bs. is_some (with_index index bs)) held ∙ found_end c.cap.held (held_again b) index number
 
-block_held : (c : Context) (o : Option Errno) (block : Bool) (a : Answer) (index used flags seq : ℕ) (stamp : Stamp) → (a.reply ≡ Taken index used flags seq stamp → IsHeldIn index a.slot) → (unless_or_block c o block a).reply ≡ Taken index used flags seq stamp → IsHeldIn index (unless_or_block c o block a).slot
+block_held :
+    (c : Context) (o : Option Errno) (block : Bool) (a : Answer) (index used flags seq : ℕ) (stamp : Stamp)
+    → (a.reply ≡ Taken index used flags seq stamp → IsHeldIn index a.slot) → (unless_or_block c o block a).reply ≡ Taken index used flags seq stamp
+    → IsHeldIn index (unless_or_block c o block a).slot
 block_held c None block a index used flags seq stamp h e = h e
 block_held c (Some Again) true a index used flags seq stamp h e = absurd (cc)
 block_held c (Some Again) false a index used flags seq stamp h e = absurd (cc)
@@ -156,7 +173,9 @@ block_held c (Some Inval) block a index used flags seq stamp h e = absurd (cc)
 block_held c (Some NoTty) block a index used flags seq stamp h e = absurd (cc)
 block_held c (Some Pipe) block a index used flags seq stamp h e = absurd (cc)
 
-taken_held : (s : Slot) (block : Bool) (bytes : List ℕ) (found : Bool) (index used flags seq : ℕ) (stamp : Stamp) → (answer s (DqBuf Cap block) bytes found).reply ≡ Taken index used flags seq stamp → IsHeldIn index (answer s (DqBuf Cap block) bytes found).slot
+taken_held :
+    (s : Slot) (block : Bool) (bytes : List ℕ) (found : Bool) (index used flags seq : ℕ) (stamp : Stamp)
+    → (answer s (DqBuf Cap block) bytes found).reply ≡ Taken index used flags seq stamp → IsHeldIn index (answer s (DqBuf Cap block) bytes found).slot
 unfolding answer closed_answer context_answer
 taken_held None block bytes found index used flags seq stamp e = absurd (cc)
 taken_held (Some c) block bytes found index used flags seq stamp e =
@@ -178,11 +197,17 @@ payload_there None index hold t sound fits = absurd t
 payload_there (Some x) index hold t sound fits =
     let b = some_is (with_index index x.cap.held) t in
     let below : index < 32 = held_below x.cap index b.0 sound.cap.once sound.fit.few_cap b.1 in
-    some_there (with_index index x.cap.held) (held_payload hold Cap index) t (subst (λ (side : Side). option_map length (held_payload hold side index) ≡ option_map (λ (y : Buffer). y.size) (with_index index x.cap.held)) sound.cap_side (fits.cap index below))
+    some_there (with_index index x.cap.held) (held_payload hold Cap index) t
+    (subst (λ (side : Side). option_map length (held_payload hold side index) ≡ option_map (λ (y : Buffer). y.size) (with_index index x.cap.held)) sound.cap_side (fits.cap index below))
 
-moved_taken : (s : Slot) (request : Call) (told : Reply) (old new : HoldState) (bytes handed : List ℕ) (found : Bool) → IsSoundCoreSlot (answer s request bytes found).slot → FitsSlot (answer s request bytes found).slot new → Moves s request told old new → (answer s request bytes found).reply ≡ told → (answer s request bytes found).bytes ≡ handed → IsTaken request told handed new
+moved_taken :
+    (s : Slot) (request : Call) (told : Reply) (old new : HoldState) (bytes handed : List ℕ) (found : Bool)
+    → IsSoundCoreSlot (answer s request bytes found).slot → FitsSlot (answer s request bytes found).slot new → Moves s request told old new
+    → (answer s request bytes found).reply ≡ told → (answer s request bytes found).bytes ≡ handed → IsTaken request told handed new
 moved_taken s (DqBuf Cap block) (Taken index used flags seq stamp) old new bytes handed found w f m r b =
-    handed_there s index used flags seq stamp handed old new m (payload_there (answer s (DqBuf Cap block) bytes found).slot index new (taken_held s block bytes found index used flags seq stamp r) w f) (sym b ∙ taken_bytes s block bytes found index used flags seq stamp r)
+    handed_there s index used flags seq stamp handed old new m
+    (payload_there (answer s (DqBuf Cap block) bytes found).slot index new (taken_held s block bytes found index used flags seq stamp r) w f)
+    (sym b ∙ taken_bytes s block bytes found index used flags seq stamp r)
 moved_taken s (DqBuf Cap block) Done old new bytes handed found w f m r b = tt
 moved_taken s (DqBuf Cap block) (Desc fourcc) old new bytes handed found w f m r b = tt
 moved_taken s (DqBuf Cap block) (Fmt format) old new bytes handed found w f m r b = tt
@@ -217,7 +242,10 @@ moved_taken s (SetCtrl id value) told old new bytes handed found w f m r b = tt
 moved_taken s Poll told old new bytes handed found w f m r b = tt
 
 -- the slot of the call after it
-slot_now : (core : CoreState) (k : ℕ) (a : Answer) (told : Reply) (handed : List ℕ) (t : Bool) → nat_lt k (length core.slots) ≡ t → (cond t (call_answered core k a) (ignored core)).reply ≡ Told k (Answered told handed) → slot_of (cond t (call_answered core k a) (ignored core)).device k ≡ a.slot
+slot_now :
+    (core : CoreState) (k : ℕ) (a : Answer) (told : Reply) (handed : List ℕ) (t : Bool) → nat_lt k (length core.slots) ≡ t
+    → (cond t (call_answered core k a) (ignored core)).reply ≡ Told k (Answered told handed)
+    → slot_of (cond t (call_answered core k a) (ignored core)).device k ≡ a.slot
 unfolding with_slot
 slot_now core k a told handed true l e =
     get_or-set_same core.slots k a.slot None (ltb-true k (length core.slots) l)
@@ -251,14 +279,24 @@ moved_call core now k request told old new e is =
       want = is.want;
     }
 
-pub call_done : (n : ℕ) (history : List DeviceEvent) (core now : CoreState) (holds : List HoldState) (jobs : List (Option Job)) (desk : Desk) (k : ℕ) (request : Call) (bytes : List ℕ) (told : Reply) (first filled_hold hold : HoldState) → desk.core ≡ now → desk.holds.items ≡ set holds k hold → desk.jobs.items ≡ jobs → k < length core.slots → first ≡ get_or holds k first → filled_hold ≡ filled request bytes first → IsCall core k request filled_hold told now → Moves (slot_of core k) request told filled_hold hold → length now.slots ≡ length core.slots → now.workers ≡ core.workers → FitsSlot (slot_of now k) hold → IsAt n history core holds jobs → HasUsedBytes request bytes → CallDone n history k request bytes told desk
+pub call_done :
+    (n : ℕ) (history : List DeviceEvent) (core now : CoreState) (holds : List HoldState) (jobs : List (Option Job)) (desk : Desk) (k : ℕ)
+    (request : Call) (bytes : List ℕ) (told : Reply) (first filled_hold hold : HoldState)
+    → desk.core ≡ now → desk.holds.items ≡ set holds k hold → desk.jobs.items ≡ jobs → k < length core.slots → first ≡ get_or holds k first
+    → filled_hold ≡ filled request bytes first → IsCall core k request filled_hold told now → Moves (slot_of core k) request told filled_hold hold
+    → length now.slots ≡ length core.slots → now.workers ≡ core.workers → FitsSlot (slot_of now k) hold → IsAt n history core holds jobs
+    → HasUsedBytes request bytes → CallDone n history k request bytes told desk
 unfolding moved_call
 call_done n history core now holds jobs desk k request bytes told first filled_hold hold e1 e2 e3 l place fills is moves size crew fit at used =
     let l2 : k < length holds = omega (arith, l, at.slots, at.users) in
     let same : filled_hold ≡ filled request bytes (get_or holds k empty_hold) = fills ∙ ap (filled request bytes) (place_is holds k first l2 place) in
-    let made = call_made n history core now holds jobs k request bytes told hold at (omega (arith, l, at.slots)) used (moved_call core now k request told filled_hold (filled request bytes (get_or holds k empty_hold)) same is) size crew fit in
-    let here : slot_of now k ≡ (answer (slot_of core k) request (handed_over request filled_hold) is.found).slot = ap (λ c. slot_of c k) (sym is.device) ∙ slot_now core k (answer (slot_of core k) request (handed_over request filled_hold) is.found) told is.handed (nat_lt k (length core.slots)) refl is.reply in
-    let sound : IsSoundCoreSlot (answer (slot_of core k) request (handed_over request filled_hold) is.found).slot = subst IsSoundCoreSlot here (cores_are_sound the_coder n 16 now (history ++ call k request bytes made.found ∷ []) k made.at.stands) in
+    let made =
+    call_made n history core now holds jobs k request bytes told hold at (omega (arith, l, at.slots)) used
+    (moved_call core now k request told filled_hold (filled request bytes (get_or holds k empty_hold)) same is) size crew fit in
+    let here : slot_of now k ≡ (answer (slot_of core k) request (handed_over request filled_hold) is.found).slot =
+    ap (λ c. slot_of c k) (sym is.device) ∙ slot_now core k (answer (slot_of core k) request (handed_over request filled_hold) is.found) told is.handed (nat_lt k (length core.slots)) refl is.reply in
+    let sound : IsSoundCoreSlot (answer (slot_of core k) request (handed_over request filled_hold) is.found).slot =
+    subst IsSoundCoreSlot here (cores_are_sound the_coder n 16 now (history ++ call k request bytes made.found ∷ []) k made.at.stands) in
     let fits : FitsSlot (answer (slot_of core k) request (handed_over request filled_hold) is.found).slot hold = subst (λ x. FitsSlot x hold) here fit in
     let parts = told_parts core k (answer (slot_of core k) request (handed_over request filled_hold) is.found) told is.handed (nat_lt k (length core.slots)) is.reply in
     record {
@@ -266,6 +304,12 @@ call_done n history core now holds jobs desk k request bytes told first filled_h
       handed = made.handed;
       want = made.want;
       reply = made.reply;
-      at = subst (λ c. IsAt n (history ++ call k request bytes made.found ∷ []) c desk.holds.items desk.jobs.items) (sym e1) (subst (λ h. IsAt n (history ++ call k request bytes made.found ∷ []) now h desk.jobs.items) (sym e2) (subst (IsAt n (history ++ call k request bytes made.found ∷ []) now (set holds k hold)) (sym e3) made.at));
-      taken = subst (λ h. IsTaken request told made.handed (get_or h k empty_hold)) (sym e2) (subst (IsTaken request told made.handed) (sym (set_default holds k hold l2)) (moved_taken (slot_of core k) request told filled_hold hold (handed_over request filled_hold) made.handed is.found sound fits moves parts.0 (parts.1 ∙ sym made.same_handed)));
+      at =
+          subst (λ c. IsAt n (history ++ call k request bytes made.found ∷ []) c desk.holds.items desk.jobs.items) (sym e1)
+          (subst (λ h. IsAt n (history ++ call k request bytes made.found ∷ []) now h desk.jobs.items) (sym e2)
+          (subst (IsAt n (history ++ call k request bytes made.found ∷ []) now (set holds k hold)) (sym e3) made.at));
+      taken =
+          subst (λ h. IsTaken request told made.handed (get_or h k empty_hold)) (sym e2)
+          (subst (IsTaken request told made.handed) (sym (set_default holds k hold l2))
+          (moved_taken (slot_of core k) request told filled_hold hold (handed_over request filled_hold) made.handed is.found sound fits moves parts.0 (parts.1 ∙ sym made.same_handed)));
     }

@@ -1,4 +1,5 @@
--- Lines that are carried out one after another print a text of the script.
+-- Lines that are carried out one after another print a text of the script: each line prints its own text at the device that those
+-- before it left, so the texts joined are one of the whole.
 use Rattle.std.proofs.Common.{ℕ, ◌≡◌, List, [], ◌∷◌, ◌++◌, length, drop, refl, sym, ap, ◌∙◌, subst, append_assoc}
 use Rattle.std.proofs.lemmas.List.{append-nil}
 use Rattle.vc_base.specs.Device.{DeviceEvent}
@@ -19,7 +20,9 @@ after-both coder d [] fs = refl
 after-both coder d (e ∷ es) fs = after-both coder (device_step coder d e).device es fs
 
 -- one line more
-pub carried_more : (d : DeviceState) (ls : List Asked) (asked : Asked) (output text : List ℕ) (events mine : List DeviceEvent) → Carried d ls output events → LineDoes (device_after the_coder d events) asked text mine → Carried d (ls ++ asked ∷ []) (output ++ text) (events ++ mine)
+pub carried_more :
+    (d : DeviceState) (ls : List Asked) (asked : Asked) (output text : List ℕ) (events mine : List DeviceEvent) → Carried d ls output events
+    → LineDoes (device_after the_coder d events) asked text mine → Carried d (ls ++ asked ∷ []) (output ++ text) (events ++ mine)
 carried_more d [] asked output text events mine c l = (
   text,
   mine,
@@ -72,8 +75,14 @@ read_off d (asked ∷ rest) output more events c =
     let after = device_after the_coder d mine in
     let ih = read_off after rest out more others c.5 in
     record {
-      text = ap (λ t. text_with d asked rest whole t (line_events reply_text d asked t)) cut ∙ (ap (text_with d asked rest whole text) c.4.events_read ∙ (ap (λ o. line_text reply_text the_coder d asked mine ++ script_text reply_text the_coder after rest o) left ∙ (ap (λ o. line_text reply_text the_coder d asked mine ++ o) ih.text ∙ (ap (λ o. o ++ out) (sym c.4.told) ∙ sym c.6))));
-      events_read = ap (λ t. events_with d rest whole t (line_events reply_text d asked t)) cut ∙ (ap (events_with d rest whole text) c.4.events_read ∙ (ap (λ o. mine ++ script_events reply_text the_coder after rest o) left ∙ (ap (λ o. mine ++ o) ih.events_read ∙ sym c.7)));
+      text =
+          ap (λ t. text_with d asked rest whole t (line_events reply_text d asked t)) cut
+          ∙ (ap (text_with d asked rest whole text) c.4.events_read
+          ∙ (ap (λ o. line_text reply_text the_coder d asked mine ++ script_text reply_text the_coder after rest o) left
+          ∙ (ap (λ o. line_text reply_text the_coder d asked mine ++ o) ih.text ∙ (ap (λ o. o ++ out) (sym c.4.told) ∙ sym c.6))));
+      events_read =
+          ap (λ t. events_with d rest whole t (line_events reply_text d asked t)) cut
+          ∙ (ap (events_with d rest whole text) c.4.events_read ∙ (ap (λ o. mine ++ script_events reply_text the_coder after rest o) left ∙ (ap (λ o. mine ++ o) ih.events_read ∙ sym c.7)));
     }
 
 pub carried_prints : (n : ℕ) (ls : List Asked) (output : List ℕ) (events : List DeviceEvent) → Carried (new_device n) ls output events → Prints reply_text the_coder n ls output

@@ -1,4 +1,4 @@
--- Texts that end with their last line.
+-- Texts that end with their last line: what stands behind the last line feed is nothing, so joined texts have the lines of each.
 use Rattle.std.proofs.Common.{ℕ, suc, ◌≡◌, ◌-◌, ◌≤◌, ◌==◌, Bool, true, false, not, cond, ◌&&◌, List, [], ◌∷◌, ◌++◌, length, drop, decimal, refl, sym, ap, ◌∙◌, subst, arith, append_assoc, length-append}
 use Rattle.std.specs.List.{list_all}
 use Rattle.vc_model.specs.Script.{first_lines}

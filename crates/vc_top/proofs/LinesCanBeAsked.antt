@@ -1,4 +1,5 @@
--- What a line may ask for.
+-- What a line of the grammar asks for can be asked: its slot and its worker are there, and a QBuf carries as many bytes as it says.
+-- Each reader of a field gives numbers in the field's range only.
 use Rattle.std.proofs.Common.{ℕ, ◌≡◌, ◌-◌, ◌^◌, ◌<◌, ◌≤◌, nat_le, nat_lt, Bool, true, false, cond, ◌&&◌, Option, Some, None, List, [], ◌∷◌, length, refl, arith}
 use Rattle.std.specs.Prelude.{codes, bytes_eq}
 use Rattle.std.specs.Option.{option_map}
@@ -46,7 +47,9 @@ four false b c d e = absurd (false≢true e)
 
 number_is : (w : List ℕ) → AllSome (λ k. k < 16) (number_of 15 w)
 number_is w =
-    number_small (digits_value 10 w) (nat_le 1 (length w)) (nat_le (length w) 20) (list_all is_ascii_digit w) (nat_le (digits_value 10 w) 15) (λ e. omega (arith, le_of (digits_value 10 w) 15 (four (nat_le 1 (length w)) (nat_le (length w) 20) (list_all is_ascii_digit w) (nat_le (digits_value 10 w) 15) e))) _ refl
+    number_small (digits_value 10 w) (nat_le 1 (length w)) (nat_le (length w) 20) (list_all is_ascii_digit w) (nat_le (digits_value 10 w) 15)
+    (λ e. omega (arith, le_of (digits_value 10 w) 15 (four (nat_le 1 (length w)) (nat_le (length w) 20) (list_all is_ascii_digit w) (nat_le (digits_value 10 w) 15) e)))
+    _ refl
 
 worker_is : (ws : List (List ℕ)) → AllSome (λ k. k < 16) (worker_of ws)
 worker_is ws = all_bind (λ a. Unit {0}) (λ k. k < 16) (λ w. number_of 15 w) (one_of ws) (any (one_of ws)) (λ w u. number_is w)
@@ -102,7 +105,9 @@ HasBytes c = HasUsedBytes c.0 c.1
 
 queued_side : (side : Side) (ws : List (List ℕ)) → AllSome HasBytes (queued_on side ws)
 queued_side Out ws =
-    all_bind (λ a. Unit {0}) HasBytes _ (three_of ws) (any _) (λ w u. all_bind (λ a. Unit {0}) HasBytes _ (small_of w.0) (any _) (λ index u2. all_bind (λ a. Unit {0}) HasBytes _ (number_of (2 ^ 64 - 1) w.1) (any _) (λ stamp u3. all_bind (λ a. Unit {0}) HasBytes _ (payload_of w.2) (any _) (λ bytes u4. one HasBytes _ refl))))
+    all_bind (λ a. Unit {0}) HasBytes _ (three_of ws) (any _) (λ w u.
+    all_bind (λ a. Unit {0}) HasBytes _ (small_of w.0) (any _)
+    (λ index u2. all_bind (λ a. Unit {0}) HasBytes _ (number_of (2 ^ 64 - 1) w.1) (any _) (λ stamp u3. all_bind (λ a. Unit {0}) HasBytes _ (payload_of w.2) (any _) (λ bytes u4. one HasBytes _ refl))))
 queued_side Cap ws =
     all_bind (λ a. Unit {0}) HasBytes _ (one_of ws) (any _) (λ w u. all_bind (λ a. Unit {0}) HasBytes _ (small_of w) (any _) (λ index u2. one HasBytes _ tt))
 
@@ -122,11 +127,15 @@ call_is verb ws = plain_is verb ws
 call_asked : (n : ℕ) (w : List ℕ) (ws : List (List ℕ)) → AllSome (λ l. IsAskedLine n (Some l)) (call_line_of n w ws)
 call_asked n w [] = nothing _
 call_asked n w (v ∷ ws) =
-    all_bind (λ k. k < n) (λ l. IsAskedLine n (Some l)) _ (slot_of n w) (slot_is n (small_of w)) (λ k l. all_bind (λ a. Unit {0}) (λ l. IsAskedLine n (Some l)) _ (verb_of v) (any _) (λ verb u. all_bind HasBytes (λ l. IsAskedLine n (Some l)) _ (call_and_bytes verb ws) (call_is verb ws) (λ request h. one (λ l. IsAskedLine n (Some l)) _ (l, h))))
+    all_bind (λ k. k < n) (λ l. IsAskedLine n (Some l)) _ (slot_of n w) (slot_is n (small_of w)) (λ k l.
+    all_bind (λ a. Unit {0}) (λ l. IsAskedLine n (Some l)) _ (verb_of v) (any _)
+    (λ verb u. all_bind HasBytes (λ l. IsAskedLine n (Some l)) _ (call_and_bytes verb ws) (call_is verb ws) (λ request h. one (λ l. IsAskedLine n (Some l)) _ (l, h))))
 
 with_asked : (n : ℕ) (w : List ℕ) (ws : List (List ℕ)) → AllSome (λ l. IsAskedLine n (Some l)) (line_with n w ws)
 with_asked n w ws =
-    all_cond _ (bytes_eq w (codes "claim")) _ _ (all_map _ (λ k. lines.Claim k) (worker_of ws) (worker_is ws)) (all_cond _ (bytes_eq w (codes "finish")) _ _ (all_map _ (λ k. lines.Finish k) (worker_of ws) (worker_is ws)) (all_cond _ (bytes_eq w (codes "run")) _ _ (all_map _ (λ k. lines.Run k) (worker_of ws) (worker_is ws)) (call_asked n w ws)))
+    all_cond _ (bytes_eq w (codes "claim")) _ _ (all_map _ (λ k. lines.Claim k) (worker_of ws) (worker_is ws))
+    (all_cond _ (bytes_eq w (codes "finish")) _ _ (all_map _ (λ k. lines.Finish k) (worker_of ws) (worker_is ws))
+    (all_cond _ (bytes_eq w (codes "run")) _ _ (all_map _ (λ k. lines.Run k) (worker_of ws) (worker_is ws)) (call_asked n w ws)))
 
 asked_is : (n : ℕ) (ws : List (List ℕ)) → AllSome (IsAskedLine n) (asked_by n ws)
 asked_is n [] = one (IsAskedLine n) None tt

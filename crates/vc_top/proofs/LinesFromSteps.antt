@@ -1,4 +1,5 @@
--- What a line came to, from what its steps came to.
+-- What a line came to, from what its steps came to. A call is one step of the device, a claim one at most and a run two, and the
+-- text of the line is that of its steps, one behind another.
 use Rattle.std.proofs.Common.{ℕ, zero, suc, ◌≡◌, ◌≤◌, nat_lt, Bool, true, false, cond, Option, Some, None, List, [], ◌∷◌, ◌++◌, length, take, decimal, get_or, refl, sym, ap, ◌∙◌, subst, arith, inl, inr, append_assoc}
 use Rattle.std.specs.Prelude.{codes, Result, Ok, Err, IfOk}
 use Rattle.std.proofs.lemmas.List.{append-nil}
@@ -14,7 +15,7 @@ use Rattle.vc_model.specs.Coder.{the_coder}
 use Rattle.vc_model.specs.Devices.{Told, new_device, job_of, device_step}
 use Rattle.vc_model.specs.Script.{AsksNothing, AsksCall, AsksClaim, AsksFinish, AsksRun, found_in, HasUsedBytes as HasQueuedBytes}
 use Rattle.vc_model.specs.Standing.{CoreState, IsDevice}
-use Rattle.vc_model.proofs.Standing.{after-append}
+use Rattle.vc_model.proofs.CoresStandForDevices.{after-append}
 use Rattle.vc_queue.specs.Holds.{HoldState, held_payload}
 use Rattle.vc_queue.specs.Cells.{bytes_or_none}
 use Rattle.vc_core.specs.Jobs.{Tells}
@@ -30,7 +31,7 @@ use Rattle.vc_top.specs.declared.desk.Desk.{Desk}
 use Rattle.vc_top.specs.Desks.{after, IsKeptJob, IsAt, IsDesk, IsTaken, front_is, taken_payload, CallDone, ClaimDone, was_busy, was_empty, took, FinishDone, was_idle, ended, ClaimsWith, FinishesWith, IsSomeDesk}
 use Rattle.vc_top.specs.Does.{LineDoes}
 use Rattle.vc_top.specs.Carries.{finishes, IsCounted, LineMade}
-use Rattle.vc_top.proofs.LineTexts.{nothing_does, call_read, call_does, claim_busy, claim_none, claim_took, finish_idles, finish_ends, run_busy, run_none, run_ends}
+use Rattle.vc_top.proofs.EventsOfTexts.{nothing_does, call_read, call_does, claim_busy, claim_none, claim_took, finish_idles, finish_ends, run_busy, run_none, run_ends}
 
 -- a desk after another history that comes to the same device
 same_at : (n : ℕ) (h g : List DeviceEvent) (core : CoreState) (holds : List HoldState) (jobs : List (Option Job)) → after n h ≡ after n g → IsAt n h core holds jobs → IsAt n g core holds jobs
@@ -200,7 +201,11 @@ bytes_used Poll reply bytes hold f = tt
 
 -- Lines
 
-pub call_line : (n : ℕ) (history : List DeviceEvent) (slot : ℕ) (request : Call) (bytes : List ℕ) (told : Reply) (desk : Desk) (text : List ℕ) (runs faults : ℕ) → CallDone n history slot request bytes told desk → text ≡ reply_text slot request told (taken_payload request told (get_or desk.holds.items slot empty_hold)) → LineMade n history (AsksCall slot request bytes) text false runs runs faults faults desk
+pub call_line :
+    (n : ℕ) (history : List DeviceEvent) (slot : ℕ) (request : Call) (bytes : List ℕ) (told : Reply) (desk : Desk) (text : List ℕ) (runs faults : ℕ)
+    → CallDone n history slot request bytes told desk
+    → text ≡ reply_text slot request told (taken_payload request told (get_or desk.holds.items slot empty_hold))
+    → LineMade n history (AsksCall slot request bytes) text false runs runs faults faults desk
 call_line n history slot request bytes told desk text runs faults done is =
     let shown : text ≡ reply_text slot request told done.handed = is ∙ text_shown slot request told done.handed (get_or desk.holds.items slot empty_hold) done.taken in
     let plain = reply_text slot request told done.handed in
@@ -208,7 +213,8 @@ call_line n history slot request bytes told desk text runs faults done is =
     let d = after n history in
     let same = (call_read d slot request bytes done.found told done.handed done.handed done.reply done.want).same in
     let e = call slot request bytes found in
-    let moved : after n (history ++ call slot request bytes done.found ∷ []) ≡ after n (history ++ e ∷ []) = after-append the_coder (new_device n) history (call slot request bytes done.found) ∙ (ap (λ s. s.device) (sym same) ∙ sym (after-append the_coder (new_device n) history e)) in
+    let moved : after n (history ++ call slot request bytes done.found ∷ []) ≡ after n (history ++ e ∷ []) =
+    after-append the_coder (new_device n) history (call slot request bytes done.found) ∙ (ap (λ s. s.device) (sym same) ∙ sym (after-append the_coder (new_device n) history e)) in
     record {
       events = e ∷ [];
       does = subst (λ t. LineDoes d (AsksCall slot request bytes) t (e ∷ [])) (sym shown) (call_does d slot request bytes done.found told done.handed done.reply done.want);
@@ -224,7 +230,9 @@ pub nothing_line : (n : ℕ) (history : List DeviceEvent) (desk : Desk) (runs fa
 nothing_line n history desk runs faults at =
     record { events = []; does = nothing_does (after n history); at = nothing_more n history _ _ _ at; counted = no_finish runs runs faults faults (omega arith) (omega arith); failed = refl }
 
-pub claim_line : (n : ℕ) (history : List DeviceEvent) (worker : ℕ) (desk : Desk) (claimed : Bool) (text : List ℕ) (runs faults : ℕ) → ClaimDone n history worker desk claimed text → LineMade n history (AsksClaim worker) text false runs runs faults faults desk
+pub claim_line :
+    (n : ℕ) (history : List DeviceEvent) (worker : ℕ) (desk : Desk) (claimed : Bool) (text : List ℕ) (runs faults : ℕ)
+    → ClaimDone n history worker desk claimed text → LineMade n history (AsksClaim worker) text false runs runs faults faults desk
 claim_line n history worker desk claimed text runs faults (was_busy k e at) =
     record { events = []; does = claim_busy (after n history) worker k e; at = nothing_more n history _ _ _ at; counted = no_finish runs runs faults faults (omega arith) (omega arith); failed = refl }
 claim_line n history worker desk claimed text runs faults (was_empty e w r at) =
@@ -232,21 +240,32 @@ claim_line n history worker desk claimed text runs faults (was_empty e w r at) =
 claim_line n history worker desk claimed text runs faults (took k rest e w r at has) =
     record { events = claim worker ∷ []; does = claim_took (after n history) worker k e r; at = at; counted = record { ran = no_more runs runs (omega arith); failed = no_more faults faults (omega arith) }; failed = refl }
 
-pub finish_line : (n : ℕ) (history : List DeviceEvent) (worker : ℕ) (desk : Desk) (runs runs' faults faults' : ℕ) (fault : Bool) (text : List ℕ) → FinishDone n history worker desk runs runs' faults faults' fault text → LineMade n history (AsksFinish worker) text fault runs runs' faults faults' desk
+pub finish_line :
+    (n : ℕ) (history : List DeviceEvent) (worker : ℕ) (desk : Desk) (runs runs' faults faults' : ℕ) (fault : Bool) (text : List ℕ)
+    → FinishDone n history worker desk runs runs' faults faults' fault text
+    → LineMade n history (AsksFinish worker) text fault runs runs' faults faults' desk
 finish_line n history worker desk runs runs' faults faults' fault text (was_idle e at a b) =
     record { events = []; does = finish_idles (after n history) worker e; at = nothing_more n history _ _ _ at; counted = no_finish runs runs' faults faults' a b; failed = refl }
 finish_line n history worker desk runs runs' faults faults' fault text (ended k i j f e r at t) =
     record { events = finish worker f ∷ []; does = finish_ends (after n history) worker k i j f e r; at = at; counted = told_finish worker f runs runs' faults faults' t; failed = one_fault worker f }
 
 -- a run that took no slot
-pub run_without : (n : ℕ) (history : List DeviceEvent) (worker : ℕ) (desk : Desk) (claimed : Bool) (text : List ℕ) (runs faults : ℕ) → claimed ≡ false → ClaimDone n history worker desk claimed text → LineMade n history (AsksRun worker) text false runs runs faults faults desk
+pub run_without :
+    (n : ℕ) (history : List DeviceEvent) (worker : ℕ) (desk : Desk) (claimed : Bool) (text : List ℕ) (runs faults : ℕ) → claimed ≡ false
+    → ClaimDone n history worker desk claimed text → LineMade n history (AsksRun worker) text false runs runs faults faults desk
 run_without n history worker desk claimed text runs faults c (was_busy k e at) =
     record { events = []; does = run_busy (after n history) worker k e; at = nothing_more n history _ _ _ at; counted = no_finish runs runs faults faults (omega arith) (omega arith); failed = refl }
 run_without n history worker desk claimed text runs faults c (was_empty e w r at) =
     record { events = claim worker ∷ []; does = run_none (after n history) worker e w r; at = at; counted = record { ran = no_more runs runs (omega arith); failed = no_more faults faults (omega arith) }; failed = refl }
 run_without n history worker desk claimed text runs faults c (took k rest e w r at has) = absurd (true≢false c)
 
-run_then : (n : ℕ) (history : List DeviceEvent) (worker k : ℕ) (rest : List ℕ) (desk : Desk) (runs runs' faults faults' : ℕ) (fault : Bool) (text : List ℕ) → job_of (after n history) worker ≡ None → (after n history).waiting ≡ k ∷ rest → (device_step the_coder (after n history) (claim worker)).reply ≡ Told k Claimed → job_of (after n (history ++ claim worker ∷ [])) worker ≡ Some k → FinishDone n (history ++ claim worker ∷ []) worker desk runs runs' faults faults' fault text → LineMade n history (AsksRun worker) (claim_text k ++ text) fault runs runs' faults faults' desk
+run_then :
+    (n : ℕ) (history : List DeviceEvent) (worker k : ℕ) (rest : List ℕ) (desk : Desk) (runs runs' faults faults' : ℕ) (fault : Bool) (text : List ℕ)
+    → job_of (after n history) worker ≡ None → (after n history).waiting ≡ k ∷ rest
+    → (device_step the_coder (after n history) (claim worker)).reply ≡ Told k Claimed
+    → job_of (after n (history ++ claim worker ∷ [])) worker ≡ Some k
+    → FinishDone n (history ++ claim worker ∷ []) worker desk runs runs' faults faults' fault text
+    → LineMade n history (AsksRun worker) (claim_text k ++ text) fault runs runs' faults faults' desk
 run_then n history worker k rest desk runs runs' faults faults' fault text e w r has (was_idle free at a b) =
     absurd (some_none (sym has ∙ free))
   where
@@ -261,7 +280,10 @@ run_then n history worker k rest desk runs runs' faults faults' fault text e w r
       failed = run_fault worker f;
     }
 
-pub run_with : (n : ℕ) (history : List DeviceEvent) (worker : ℕ) (mid desk : Desk) (claimed : Bool) (front : List ℕ) (runs runs' faults faults' : ℕ) (fault : Bool) (whole : List ℕ) → claimed ≡ true → ClaimDone n history worker mid claimed front → FinishesWith mid worker front whole desk runs runs' faults faults' fault → LineMade n history (AsksRun worker) whole fault runs runs' faults faults' desk
+pub run_with :
+    (n : ℕ) (history : List DeviceEvent) (worker : ℕ) (mid desk : Desk) (claimed : Bool) (front : List ℕ) (runs runs' faults faults' : ℕ) (fault : Bool) (whole : List ℕ)
+    → claimed ≡ true → ClaimDone n history worker mid claimed front → FinishesWith mid worker front whole desk runs runs' faults faults' fault
+    → LineMade n history (AsksRun worker) whole fault runs runs' faults faults' desk
 run_with n history worker mid desk claimed front runs runs' faults faults' fault whole c (was_busy k e at) f = absurd (true≢false (sym c))
 run_with n history worker mid desk claimed front runs runs' faults faults' fault whole c (was_empty e w r at) f = absurd (true≢false (sym c))
 run_with n history worker mid desk claimed front runs runs' faults faults' fault whole c (took k rest e w r at has) f =
@@ -273,25 +295,40 @@ run_with n history worker mid desk claimed front runs runs' faults faults' fault
 first_text : (before now text : List ℕ) → before ≡ [] → now ≡ before ++ text → text ≡ now
 first_text before now text e f = sym (f ∙ ap (λ b. b ++ text) e)
 
-claim_of : (n : ℕ) (history : List DeviceEvent) (worker : ℕ) (old mid : Desk) (before now : List ℕ) (claimed : Bool) → before ≡ [] → IsDesk n history old → ClaimsWith old worker before now mid claimed → ClaimDone n history worker mid claimed now
+claim_of :
+    (n : ℕ) (history : List DeviceEvent) (worker : ℕ) (old mid : Desk) (before now : List ℕ) (claimed : Bool) → before ≡ [] → IsDesk n history old
+    → ClaimsWith old worker before now mid claimed → ClaimDone n history worker mid claimed now
 claim_of n history worker old mid before now claimed e at claims =
     let x = claims n history at in
     subst (ClaimDone n history worker mid claimed) (first_text before now x.0 e x.1) x.2
 
-pub claim_text_line : (n : ℕ) (history : List DeviceEvent) (worker : ℕ) (old mid : Desk) (before now : List ℕ) (claimed : Bool) (runs faults : ℕ) → before ≡ [] → IsDesk n history old → ClaimsWith old worker before now mid claimed → LineMade n history (AsksClaim worker) now false runs runs faults faults mid
+pub claim_text_line :
+    (n : ℕ) (history : List DeviceEvent) (worker : ℕ) (old mid : Desk) (before now : List ℕ) (claimed : Bool) (runs faults : ℕ) → before ≡ []
+    → IsDesk n history old → ClaimsWith old worker before now mid claimed
+    → LineMade n history (AsksClaim worker) now false runs runs faults faults mid
 claim_text_line n history worker old mid before now claimed runs faults e at claims =
     claim_line n history worker mid claimed now runs faults (claim_of n history worker old mid before now claimed e at claims)
 
-pub finish_text_line : (n : ℕ) (history : List DeviceEvent) (worker : ℕ) (old desk : Desk) (before now : List ℕ) (runs runs' faults faults' : ℕ) (fault : Bool) → before ≡ [] → IsDesk n history old → FinishesWith old worker before now desk runs runs' faults faults' fault → LineMade n history (AsksFinish worker) now fault runs runs' faults faults' desk
+pub finish_text_line :
+    (n : ℕ) (history : List DeviceEvent) (worker : ℕ) (old desk : Desk) (before now : List ℕ) (runs runs' faults faults' : ℕ) (fault : Bool)
+    → before ≡ [] → IsDesk n history old → FinishesWith old worker before now desk runs runs' faults faults' fault
+    → LineMade n history (AsksFinish worker) now fault runs runs' faults faults' desk
 finish_text_line n history worker old desk before now runs runs' faults faults' fault e at finishes_so =
     let x = finishes_so n history at in
     subst (λ t. LineMade n history (AsksFinish worker) t fault runs runs' faults faults' desk) (first_text before now x.0 e x.1) (finish_line n history worker desk runs runs' faults faults' fault x.0 x.2)
 
-pub run_text_line : (n : ℕ) (history : List DeviceEvent) (worker : ℕ) (old mid desk : Desk) (before now whole : List ℕ) (claimed : Bool) (runs runs' faults faults' : ℕ) (fault : Bool) → before ≡ [] → claimed ≡ true → IsDesk n history old → ClaimsWith old worker before now mid claimed → FinishesWith mid worker now whole desk runs runs' faults faults' fault → LineMade n history (AsksRun worker) whole fault runs runs' faults faults' desk
+pub run_text_line :
+    (n : ℕ) (history : List DeviceEvent) (worker : ℕ) (old mid desk : Desk) (before now whole : List ℕ) (claimed : Bool) (runs runs' faults faults' : ℕ) (fault : Bool)
+    → before ≡ [] → claimed ≡ true → IsDesk n history old → ClaimsWith old worker before now mid claimed
+    → FinishesWith mid worker now whole desk runs runs' faults faults' fault
+    → LineMade n history (AsksRun worker) whole fault runs runs' faults faults' desk
 run_text_line n history worker old mid desk before now whole claimed runs runs' faults faults' fault e c at claims f =
     run_with n history worker mid desk claimed now runs runs' faults faults' fault whole c (claim_of n history worker old mid before now claimed e at claims) f
 
-pub run_only_line : (n : ℕ) (history : List DeviceEvent) (worker : ℕ) (old mid : Desk) (before now : List ℕ) (claimed : Bool) (runs faults : ℕ) → before ≡ [] → claimed ≡ false → IsDesk n history old → ClaimsWith old worker before now mid claimed → LineMade n history (AsksRun worker) now false runs runs faults faults mid
+pub run_only_line :
+    (n : ℕ) (history : List DeviceEvent) (worker : ℕ) (old mid : Desk) (before now : List ℕ) (claimed : Bool) (runs faults : ℕ) → before ≡ []
+    → claimed ≡ false → IsDesk n history old → ClaimsWith old worker before now mid claimed
+    → LineMade n history (AsksRun worker) now false runs runs faults faults mid
 run_only_line n history worker old mid before now claimed runs faults e c at claims =
     run_without n history worker mid claimed now runs faults c (claim_of n history worker old mid before now claimed e at claims)
 

@@ -1,5 +1,7 @@
--- Steps of a desk.
-use Rattle.std.proofs.Common.{ℕ, zero, suc, ◌≡◌, ◌<◌, ◌≤◌, eqb, nat_lt, Bool, true, false, cond, is_none, is_some, Option, Some, None, List, [], ◌∷◌, ◌++◌, length, take, get_or, set, replicate, refl, sym, ap, ◌∙◌, subst, arith, get_or-set_same, get_or-set_other, length-set}
+-- Steps of the device keep a desk what it is: each worker's kept job is the one that it has, since a step changes the job of one
+-- worker at most, and the data of a running job stay.
+use Rattle.std.proofs.Common.{ℕ, zero, suc, ◌≡◌, ◌<◌, ◌≤◌, eqb, nat_lt, Bool, true, false, cond, is_none, is_some, Option, Some, None, List, [], ◌∷◌, ◌++◌}
+use Rattle.std.proofs.Common.{length, take, get_or, set, replicate, refl, sym, ap, ◌∙◌, subst, arith, get_or-set_same, get_or-set_other, length-set}
 use Rattle.std.proofs.lemmas.Bool.{eqb-true, eqb-false, lt-ltb}
 use Rattle.std.proofs.lemmas.List.{length-replicate}
 use Rattle.vc_base.specs.declared.Call.{Call}
@@ -14,22 +16,23 @@ use Rattle.vc_model.specs.Runs.{JobData, finish_word}
 use Rattle.vc_model.specs.Solo.{Answered, Claimed, Finished}
 use Rattle.vc_model.specs.Devices.{DeviceState, DeviceReply, Told, NoJob, DeviceStep, new_device, slot_of, job_of, with_slot, ignored, call_answered, device_step}
 use Rattle.vc_model.specs.Standing.{CoreState, IsDevice, Stands, job_in, job_in_slot, worker_job}
-use Rattle.vc_model.specs.Core.{new_core, core_call, core_claim, core_claim_first, core_claim_slot, claimed_job, claimed_in, claimed_first, BroughtBack, core_finish, core_finish_of, core_finish_slot, core_finish_job, word_of, brought_back, IsGiven}
+use Rattle.vc_model.specs.Core.{new_core, core_call, core_claim, core_claim_first, core_claim_slot, claimed_job, claimed_in, claimed_first, BroughtBack}
+use Rattle.vc_model.specs.Core.{core_finish, core_finish_of, core_finish_slot, core_finish_job, word_of, brought_back, IsGiven}
 use Rattle.vc_model.specs.Script.{HasUsedBytes}
-use Rattle.vc_model.proofs.Standing.{after-append, new_core_stands, calls_stand, claims_stand, finishes_stand}
-use Rattle.vc_model.proofs.CoreSound.{cores_are_sound}
-use Rattle.vc_model.proofs.Isolating.{closed_at_first}
+use Rattle.vc_model.proofs.CoresStandForDevices.{after-append, new_core_stands, calls_stand, claims_stand, finishes_stand}
+use Rattle.vc_model.proofs.CoresAreSound.{cores_are_sound}
+use Rattle.vc_model.proofs.SlotsAreIsolated.{closed_at_first}
 use Rattle.vc_queue.specs.Holds.{HoldState}
 use Rattle.vc_context.specs.Payloads.{FitsSlot, empty_hold, handed_over}
 use Rattle.vc_core.specs.Jobs.{IsJobOf, Brings, HasJob, IsOfWorker, RunsInSlot}
 use Rattle.vc_core.specs.Steps.{IsCall}
 use Rattle.vc_core.specs.declared.job.Job.{Job}
 use Rattle.vc_core.specs.declared.job.Finished.{Finished as Brought}
-use Rattle.vc_core.proofs.Slots.{nothing_held}
-use Rattle.vc_core.proofs.There.{jobs_are_there}
+use Rattle.vc_core.proofs.SlotsAnswer.{nothing_held}
+use Rattle.vc_core.proofs.JobsOfWorkersAreThere.{jobs_are_there}
 use Rattle.vc_top.specs.Desks.{HasData, after, IsKeptJob, IsAt, filled}
 use Rattle.vc_top.proofs.DeviceJobs.{IsOther, data_stays, worker_stays}
-use Rattle.vc_top.proofs.Holding.{answer_same}
+use Rattle.vc_top.proofs.CallsOnHeldPayloads.{answer_same}
 
 -- The first desk
 
@@ -88,16 +91,24 @@ waiting_same core d is = ap (λ c. c.waiting) is.state
 
 -- Calls
 
-step_same : (core : CoreState) (k : ℕ) (request : Call) (bytes : List ℕ) (hold : HoldState) (found : Bool) → answer (slot_of core k) request (handed_over request hold) found ≡ answer (slot_of core k) request bytes found → core_call core k request (handed_over request hold) found ≡ core_call core k request bytes found
+step_same :
+    (core : CoreState) (k : ℕ) (request : Call) (bytes : List ℕ) (hold : HoldState) (found : Bool)
+    → answer (slot_of core k) request (handed_over request hold) found ≡ answer (slot_of core k) request bytes found
+    → core_call core k request (handed_over request hold) found ≡ core_call core k request bytes found
 step_same core k request bytes hold found e =
     ap (λ a. cond (nat_lt k (length core.slots)) (call_answered core k a) (ignored core)) e
 
-slot_apart : (core : CoreState) (k i : ℕ) (request : Call) (bytes : List ℕ) (found : Bool) → (i ≡ k → ⊥) → (b : Bool) → slot_of (cond b (call_answered core k (answer (slot_of core k) request bytes found)) (ignored core)).device i ≡ slot_of core i
+slot_apart :
+    (core : CoreState) (k i : ℕ) (request : Call) (bytes : List ℕ) (found : Bool) → (i ≡ k → ⊥) → (b : Bool)
+    → slot_of (cond b (call_answered core k (answer (slot_of core k) request bytes found)) (ignored core)).device i ≡ slot_of core i
 unfolding with_slot
 slot_apart core k i request bytes found differs true = get_or-set_other core.slots k i _ None differs
 slot_apart core k i request bytes found differs false = refl
 
-fit_at : (before now : CoreState) (holds : List HoldState) (k i : ℕ) (hold : HoldState) → k < length holds → ((i ≡ k → ⊥) → slot_of now i ≡ slot_of before i) → FitsSlot (slot_of before i) (get_or holds i empty_hold) → FitsSlot (slot_of now k) hold → (b : Bool) → eqb k i ≡ b → FitsSlot (slot_of now i) (get_or (set holds k hold) i empty_hold)
+fit_at :
+    (before now : CoreState) (holds : List HoldState) (k i : ℕ) (hold : HoldState) → k < length holds
+    → ((i ≡ k → ⊥) → slot_of now i ≡ slot_of before i) → FitsSlot (slot_of before i) (get_or holds i empty_hold) → FitsSlot (slot_of now k) hold
+    → (b : Bool) → eqb k i ≡ b → FitsSlot (slot_of now i) (get_or (set holds k hold) i empty_hold)
 fit_at before now holds k i hold l apart f own true e =
     subst (λ y. FitsSlot (slot_of now y) (get_or (set holds k hold) y empty_hold)) (eqb-true k i e) (subst (FitsSlot (slot_of now k)) (sym (get_or-set_same holds k hold empty_hold l)) own)
 fit_at before now holds k i hold l apart f own false e =
@@ -113,7 +124,11 @@ pub record CallMade (n : ℕ) (history : List DeviceEvent) (k : ℕ) (request : 
   pub reply : (device_step the_coder (after n history) (call k request bytes found)).reply ≡ Told k (Answered told handed)
   pub at : IsAt n (history ++ call k request bytes found ∷ []) now holds jobs
 
-pub call_made : (n : ℕ) (history : List DeviceEvent) (core now : CoreState) (holds : List HoldState) (jobs : List (Option Job)) (k : ℕ) (request : Call) (bytes : List ℕ) (told : Reply) (hold : HoldState) → IsAt n history core holds jobs → k < n → HasUsedBytes request bytes → (is : IsCall core k request (filled request bytes (get_or holds k empty_hold)) told now) → length now.slots ≡ length core.slots → now.workers ≡ core.workers → FitsSlot (slot_of now k) hold → CallMade n history k request bytes told now (set holds k hold) jobs is.handed
+pub call_made :
+    (n : ℕ) (history : List DeviceEvent) (core now : CoreState) (holds : List HoldState) (jobs : List (Option Job)) (k : ℕ) (request : Call) (bytes : List ℕ) (told : Reply) (hold : HoldState)
+    → IsAt n history core holds jobs → k < n → HasUsedBytes request bytes
+    → (is : IsCall core k request (filled request bytes (get_or holds k empty_hold)) told now) → length now.slots ≡ length core.slots
+    → now.workers ≡ core.workers → FitsSlot (slot_of now k) hold → CallMade n history k request bytes told now (set holds k hold) jobs is.handed
 call_made n history core now holds jobs k request bytes told hold at l used is size crew fit =
     let sound = cores_are_sound the_coder n 16 core history k at.stands in
     let same = step_same core k request bytes (filled request bytes (get_or holds k empty_hold)) is.found (answer_same (slot_of core k) request bytes (get_or holds k empty_hold) is.found used sound (at.fit k l)) in
@@ -132,7 +147,11 @@ call_made n history core now holds jobs k request bytes told hold at l used is s
         slots = size ∙ at.slots;
         workers = ap length crew ∙ at.workers;
         users = length-set holds k hold ∙ at.users;
-        fit = λ i m. fit_at core now holds k i hold (omega (arith, at.users)) (λ differs. sym (ap (λ c. slot_of c i) device) ∙ slot_apart core k i request bytes is.found differs (nat_lt k (length core.slots))) (at.fit i m) fit (eqb k i) refl;
+        fit =
+            λ i m.
+            fit_at core now holds k i hold (omega (arith, at.users))
+            (λ differs. sym (ap (λ c. slot_of c i) device) ∙ slot_apart core k i request bytes is.found differs (nat_lt k (length core.slots)))
+            (at.fit i m) fit (eqb k i) refl;
         kept_jobs = at.kept_jobs;
         kept = λ worker m. kept_next n history worker e (get_or jobs worker None) tt (at.kept worker m);
       };
@@ -158,7 +177,8 @@ pub record ClaimEmpty (n : ℕ) (history : List DeviceEvent) (worker : ℕ) (now
 
 first_claim : (core : CoreState) (worker : ℕ) → worker < length core.workers → job_of core worker ≡ None → core_claim core worker ≡ core_claim_first core worker core.waiting
 first_claim core worker l e =
-    ap (λ b. cond b (cond (is_none (job_of core worker)) (core_claim_first core worker core.waiting) (ignored core)) (ignored core)) (lt-ltb worker (length core.workers) l) ∙ ap (λ o. cond (is_none o) (core_claim_first core worker core.waiting) (ignored core)) e
+    ap (λ b. cond b (cond (is_none (job_of core worker)) (core_claim_first core worker core.waiting) (ignored core)) (ignored core)) (lt-ltb worker (length core.workers) l)
+    ∙ ap (λ o. cond (is_none o) (core_claim_first core worker core.waiting) (ignored core)) e
 
 -- the core after the claim of slot k
 record Fronts (core : CoreState) (worker k : ℕ) (step : DeviceStep) (j : JobData) : Type 0 where
@@ -173,14 +193,21 @@ front_is core worker k rest j (Some c) e f = record { reply = refl; workers = re
 given_job : (after_claim : DeviceState) (worker k : ℕ) (j : JobData) (r : DeviceReply) (o : Option JobData) → r ≡ Told k Claimed → o ≡ Some j → IsGiven worker after_claim o r → worker_job after_claim worker ≡ Some j
 given_job d worker k j r o e f g = subst (λ x. IsGiven worker d o x) e g ∙ f
 
-kept_job : (jobs : List (Option Job)) (worker i : ℕ) (o : Option Job) (P : ℕ → Option Job → Type 0) → worker < length jobs → P worker o → ((i ≡ worker → ⊥) → P i (get_or jobs i None)) → (b : Bool) → eqb worker i ≡ b → P i (get_or (set jobs worker o) i None)
+kept_job :
+    (jobs : List (Option Job)) (worker i : ℕ) (o : Option Job) (P : ℕ → Option Job → Type 0) → worker < length jobs → P worker o
+    → ((i ≡ worker → ⊥) → P i (get_or jobs i None)) → (b : Bool) → eqb worker i ≡ b → P i (get_or (set jobs worker o) i None)
 kept_job jobs worker i o P l own others true e =
     subst (λ y. P y (get_or (set jobs worker o) y None)) (eqb-true worker i e) (subst (P worker) (sym (get_or-set_same jobs worker o None l)) own)
 kept_job jobs worker i o P l own others false e =
     let differs = λ (z : i ≡ worker). eqb-false worker i e (sym z) in
     subst (P i) (sym (get_or-set_other jobs worker i o None differs)) (others differs)
 
-pub claim_took : (n : ℕ) (history : List DeviceEvent) (core now : CoreState) (holds : List HoldState) (jobs : List (Option Job)) (worker k : ℕ) (rest : List ℕ) (j : JobData) (job : Job) → IsAt n history core holds jobs → worker < 16 → job_of core worker ≡ None → core.waiting ≡ k ∷ rest → claimed_job core ≡ Some j → IsJobOf k j job → now ≡ (core_claim core worker).device → length now.slots ≡ length core.slots → ((i : ℕ) (hold : HoldState) → FitsSlot (slot_of core i) hold → FitsSlot (slot_of now i) hold) → length now.workers ≡ length core.workers → ClaimTook n history worker k now holds jobs job
+pub claim_took :
+    (n : ℕ) (history : List DeviceEvent) (core now : CoreState) (holds : List HoldState) (jobs : List (Option Job)) (worker k : ℕ) (rest : List ℕ) (j : JobData) (job : Job)
+    → IsAt n history core holds jobs → worker < 16 → job_of core worker ≡ None → core.waiting ≡ k ∷ rest → claimed_job core ≡ Some j
+    → IsJobOf k j job → now ≡ (core_claim core worker).device → length now.slots ≡ length core.slots
+    → ((i : ℕ) (hold : HoldState) → FitsSlot (slot_of core i) hold → FitsSlot (slot_of now i) hold) → length now.workers ≡ length core.workers
+    → ClaimTook n history worker k now holds jobs job
 claim_took n history core now holds jobs worker k rest j job at l free waits given is step size keeps crew =
     let l2 : worker < length core.workers = omega (arith, at.workers) in
     let first = first_claim core worker l2 free ∙ ap (core_claim_first core worker) waits in
@@ -189,7 +216,9 @@ claim_took n history core now holds jobs worker k rest j job at l free waits giv
     let stands = claims_stand the_coder n 16 core history worker l at.stands in
     let reply : (core_claim core worker).reply ≡ Told k Claimed = ap (λ s. s.reply) first ∙ fronts.reply in
     let next : Stands the_coder n 16 now (history ++ claim worker ∷ []) = subst (λ c. Stands the_coder n 16 c (history ++ claim worker ∷ [])) (sym step) stands.step.stands in
-    let has : job_of (after n (history ++ claim worker ∷ [])) worker ≡ Some k = sym (worker_same now (after n (history ++ claim worker ∷ [])) worker next l) ∙ (ap (λ c. job_of c worker) device ∙ (ap (λ ws. get_or ws worker None) fronts.workers ∙ get_or-set_same core.workers worker (Some k) None l2)) in
+    let has : job_of (after n (history ++ claim worker ∷ [])) worker ≡ Some k =
+    sym (worker_same now (after n (history ++ claim worker ∷ [])) worker next l)
+    ∙ (ap (λ c. job_of c worker) device ∙ (ap (λ ws. get_or ws worker None) fronts.workers ∙ get_or-set_same core.workers worker (Some k) None l2)) in
     let there : worker_job (after n (history ++ claim worker ∷ [])) worker ≡ Some j = given_job (after n (history ++ claim worker ∷ [])) worker k j (core_claim core worker).reply (claimed_job core) reply given stands.job in
     let in_slot : job_in (slot_of (after n (history ++ claim worker ∷ [])) k) ≡ Some j = sym (ap (job_in_slot (after n (history ++ claim worker ∷ []))) has) ∙ there in
     record {
@@ -208,11 +237,18 @@ claim_took n history core now holds jobs worker k rest j job at l free waits giv
         users = at.users;
         fit = λ i m. keeps i (get_or holds i empty_hold) (at.fit i m);
         kept_jobs = length-set jobs worker (Some job) ∙ at.kept_jobs;
-        kept = λ i m. kept_job jobs worker i (Some job) (IsKeptJob (after n (history ++ claim worker ∷ []))) (omega (arith, at.kept_jobs)) (k, j, record { of_slot = has; data_there = in_slot }, is) (λ differs. kept_next n history i (claim worker) (get_or jobs i None) differs (at.kept i m)) (eqb worker i) refl;
+        kept =
+            λ i m.
+            kept_job jobs worker i (Some job) (IsKeptJob (after n (history ++ claim worker ∷ []))) (omega (arith, at.kept_jobs))
+            (k, j, record { of_slot = has; data_there = in_slot }, is)
+            (λ differs. kept_next n history i (claim worker) (get_or jobs i None) differs (at.kept i m)) (eqb worker i) refl;
       };
     }
 
-pub claim_empty : (n : ℕ) (history : List DeviceEvent) (core now : CoreState) (holds : List HoldState) (jobs : List (Option Job)) (worker : ℕ) → IsAt n history core holds jobs → worker < 16 → job_of core worker ≡ None → get_or jobs worker None ≡ None → core.waiting ≡ [] → now ≡ (core_claim core worker).device → ClaimEmpty n history worker now holds jobs
+pub claim_empty :
+    (n : ℕ) (history : List DeviceEvent) (core now : CoreState) (holds : List HoldState) (jobs : List (Option Job)) (worker : ℕ)
+    → IsAt n history core holds jobs → worker < 16 → job_of core worker ≡ None → get_or jobs worker None ≡ None → core.waiting ≡ []
+    → now ≡ (core_claim core worker).device → ClaimEmpty n history worker now holds jobs
 claim_empty n history core now holds jobs worker at l free none waits step =
     let l2 : worker < length core.workers = omega (arith, at.workers) in
     let first = first_claim core worker l2 free ∙ ap (core_claim_first core worker) waits in
@@ -236,7 +272,9 @@ claim_empty n history core now holds jobs worker at l free none waits step =
       };
     }
   where
-    kept_empty : (i : ℕ) (b : Bool) → eqb worker i ≡ b → IsKeptJob (after n history) i (get_or jobs i None) → job_of (after n (history ++ claim worker ∷ [])) worker ≡ None → IsKeptJob (after n (history ++ claim worker ∷ [])) i (get_or jobs i None)
+    kept_empty :
+        (i : ℕ) (b : Bool) → eqb worker i ≡ b → IsKeptJob (after n history) i (get_or jobs i None)
+        → job_of (after n (history ++ claim worker ∷ [])) worker ≡ None → IsKeptJob (after n (history ++ claim worker ∷ [])) i (get_or jobs i None)
     kept_empty i true e k still =
         subst (λ y. IsKeptJob (after n (history ++ claim worker ∷ [])) y (get_or jobs y None)) (eqb-true worker i e) (subst (IsKeptJob (after n (history ++ claim worker ∷ [])) worker) (sym none) still)
     kept_empty i false e k still =
@@ -244,7 +282,10 @@ claim_empty n history core now holds jobs worker at l free none waits step =
 
 -- Finishes
 
-pub finish_is_of : (n : ℕ) (history : List DeviceEvent) (core : CoreState) (holds : List HoldState) (jobs : List (Option Job)) (worker k : ℕ) (j : JobData) (finished : Brought) (fault : Bool) → IsAt n history core holds jobs → worker < 16 → HasData (after n history) worker k j → Brings k (brought_back the_coder j fault) finished → HasJob core worker k j
+pub finish_is_of :
+    (n : ℕ) (history : List DeviceEvent) (core : CoreState) (holds : List HoldState) (jobs : List (Option Job)) (worker k : ℕ) (j : JobData) (finished : Brought) (fault : Bool)
+    → IsAt n history core holds jobs → worker < 16 → HasData (after n history) worker k j → Brings k (brought_back the_coder j fault) finished
+    → HasJob core worker k j
 finish_is_of n history core holds jobs worker k j finished fault at l h b =
     jobs_are_there the_coder n 16 core history worker k j at.stands (worker_same core (after n history) worker at.stands l ∙ h.of_slot) (ap (job_in_slot (after n history)) h.of_slot ∙ h.data_there)
 
@@ -256,7 +297,9 @@ record Ends (core : CoreState) (worker k : ℕ) (back : BroughtBack) (step : Dev
   pub reply : step.reply ≡ Told k (Finished (word_of back))
   pub workers : step.device.workers ≡ set core.workers worker None
 
-job_ends : (core : CoreState) (worker k : ℕ) (c : Context) (j : JobData) (fault : Bool) → (o : Option Running) → is_some o ≡ true → Ends core worker k (brought_back the_coder j fault) (core_finish_job core worker k c o (brought_back the_coder j fault))
+job_ends :
+    (core : CoreState) (worker k : ℕ) (c : Context) (j : JobData) (fault : Bool) → (o : Option Running) → is_some o ≡ true
+    → Ends core worker k (brought_back the_coder j fault) (core_finish_job core worker k c o (brought_back the_coder j fault))
 unfolding with_slot
 job_ends core worker k c j fault None p = absurd (cc)
 job_ends core worker k c j fault (Some r) p = record { reply = refl; workers = refl }
@@ -276,7 +319,12 @@ pub record FinishMade (n : ℕ) (history : List DeviceEvent) (worker k : ℕ) (j
   pub reply : (device_step the_coder (after n history) (finish worker fault)).reply ≡ Told k (Finished (finish_word the_coder j fault))
   pub at : IsAt n (history ++ finish worker fault ∷ []) now holds (set jobs worker None)
 
-pub finish_made : (n : ℕ) (history : List DeviceEvent) (core now : CoreState) (holds : List HoldState) (jobs : List (Option Job)) (worker k : ℕ) (j : JobData) (fault : Bool) → IsAt n history core holds jobs → worker < 16 → HasData (after n history) worker k j → HasJob core worker k j → now ≡ (core_finish core worker (brought_back the_coder j fault)).device → length now.slots ≡ length core.slots → ((i : ℕ) (hold : HoldState) → FitsSlot (slot_of core i) hold → FitsSlot (slot_of now i) hold) → length now.workers ≡ length core.workers → FinishMade n history worker k j fault now holds jobs
+pub finish_made :
+    (n : ℕ) (history : List DeviceEvent) (core now : CoreState) (holds : List HoldState) (jobs : List (Option Job)) (worker k : ℕ) (j : JobData) (fault : Bool)
+    → IsAt n history core holds jobs → worker < 16 → HasData (after n history) worker k j → HasJob core worker k j
+    → now ≡ (core_finish core worker (brought_back the_coder j fault)).device → length now.slots ≡ length core.slots
+    → ((i : ℕ) (hold : HoldState) → FitsSlot (slot_of core i) hold → FitsSlot (slot_of now i) hold) → length now.workers ≡ length core.workers
+    → FinishMade n history worker k j fault now holds jobs
 finish_made n history core now holds jobs worker k j fault at l given has step size keeps crew =
     let back = brought_back the_coder j fault in
     let l2 : worker < length core.workers = omega (arith, at.workers) in
@@ -285,7 +333,9 @@ finish_made n history core now holds jobs worker k j fault at l given has step s
     let device : now ≡ (core_finish_slot core worker k (slot_of core k) back).device = step ∙ ap (λ s. s.device) first in
     let stands = finishes_stand the_coder n 16 core history worker j fault (ap (job_in_slot (after n history)) given.of_slot ∙ given.data_there) at.stands in
     let next : Stands the_coder n 16 now (history ++ finish worker fault ∷ []) = subst (λ c. Stands the_coder n 16 c (history ++ finish worker fault ∷ [])) (sym step) stands.stands in
-    let free : job_of (after n (history ++ finish worker fault ∷ [])) worker ≡ None = sym (worker_same now (after n (history ++ finish worker fault ∷ [])) worker next l) ∙ (ap (λ c. job_of c worker) device ∙ (ap (λ ws. get_or ws worker None) ends.workers ∙ get_or-set_same core.workers worker None None l2)) in
+    let free : job_of (after n (history ++ finish worker fault ∷ [])) worker ≡ None =
+    sym (worker_same now (after n (history ++ finish worker fault ∷ [])) worker next l)
+    ∙ (ap (λ c. job_of c worker) device ∙ (ap (λ ws. get_or ws worker None) ends.workers ∙ get_or-set_same core.workers worker None None l2)) in
     record {
       had = given.of_slot;
       reply = sym stands.reply ∙ (ap (λ s. s.reply) first ∙ (ends.reply ∙ ap (λ w. Told k (Finished w)) (same_word j fault)));
@@ -297,6 +347,9 @@ finish_made n history core now holds jobs worker k j fault at l given has step s
         users = at.users;
         fit = λ i m. keeps i (get_or holds i empty_hold) (at.fit i m);
         kept_jobs = length-set jobs worker None ∙ at.kept_jobs;
-        kept = λ i m. kept_job jobs worker i None (IsKeptJob (after n (history ++ finish worker fault ∷ []))) (omega (arith, at.kept_jobs)) free (λ differs. kept_next n history i (finish worker fault) (get_or jobs i None) differs (at.kept i m)) (eqb worker i) refl;
+        kept =
+            λ i m.
+            kept_job jobs worker i None (IsKeptJob (after n (history ++ finish worker fault ∷ []))) (omega (arith, at.kept_jobs)) free
+            (λ differs. kept_next n history i (finish worker fault) (get_or jobs i None) differs (at.kept i m)) (eqb worker i) refl;
       };
     }

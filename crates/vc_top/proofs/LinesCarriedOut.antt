@@ -1,5 +1,7 @@
--- Lines carried out one after another.
-use Rattle.std.proofs.Common.{◌≡◌, ℕ, zero, suc, ◌+◌, ◌≤◌, ◌<◌, Bool, true, false, cond, ◌||◌, List, [], ◌∷◌, ◌++◌, length, take, drop, Option, Some, None, Result, Err, IsErrOf, refl, sym, ◌∙◌, ap, subst, inl, inr, arith, add-one, append_assoc, length-append}
+-- Lines carried out one after another: after each one the events, the output and the engine's counts are those of the lines so
+-- far, and at a stop those of a prefix. By induction over the lines, each of which adds its own.
+use Rattle.std.proofs.Common.{◌≡◌, ℕ, zero, suc, ◌+◌, ◌≤◌, ◌<◌, Bool, true, false, cond, ◌||◌, List, [], ◌∷◌, ◌++◌, length, take, drop, Option, Some, None}
+use Rattle.std.proofs.Common.{Result, Err, IsErrOf, refl, sym, ◌∙◌, ap, subst, inl, inr, arith, add-one, append_assoc, length-append}
 use Rattle.std.specs.List.{filter}
 use Rattle.std.proofs.lemmas.List.{append-nil, take_all, take-append-drop}
 use Rattle.std.proofs.Math.Seq.{take-append-add}
@@ -18,9 +20,10 @@ use Rattle.vc_top.specs.Asking.{asks_line, asks_lines, with_rest}
 use Rattle.vc_top.specs.Carries.{finishes, is_finish, IsCounted}
 use Rattle.vc_worker.specs.Turns.{RoseBy}
 use Rattle.vc_top.specs.Desks.{IsDesk}
-use Rattle.vc_top.specs.Ends.{EngineCounts, Carries, AllWritten, FrontWritten, LinesEnd}
+use Rattle.vc_crew.specs.Counts.{EngineCounts}
+use Rattle.vc_top.specs.Ends.{Carries, AllWritten, FrontWritten, LinesEnd}
 use Rattle.vc_top.specs.Steps.{LineDone, LineStopped, status_of, status_at_end}
-use Rattle.vc_top.proofs.Carrying.{Carried, carried_more, carried_prints, carried_events}
+use Rattle.vc_top.proofs.LinesPrintTheScript.{Carried, carried_more, carried_prints, carried_events}
 
 abbrev counts : ℕ → ℕ → EngineCounts
 counts runs faults = record { runs = runs; faults = faults }
@@ -35,7 +38,10 @@ asks_more slots [] line asked a e f =
 asks_more slots (l ∷ ls) line asked a e f =
     with_first (asks_line slots l) (asks_lines slots ls) (λ rest r. asks_more slots ls line rest a r f) refl e
   where
-    with_first : (x : Option Asked) (xs : Option (List Asked)) → ((rest : List Asked) → asks_lines slots ls ≡ Some rest → asks_lines slots (ls ++ line ∷ []) ≡ Some (rest ++ a ∷ [])) → asks_lines slots ls ≡ xs → with_rest x xs ≡ Some asked → with_rest x (asks_lines slots (ls ++ line ∷ [])) ≡ Some (asked ++ a ∷ [])
+    with_first :
+        (x : Option Asked) (xs : Option (List Asked))
+        → ((rest : List Asked) → asks_lines slots ls ≡ Some rest → asks_lines slots (ls ++ line ∷ []) ≡ Some (rest ++ a ∷ []))
+        → asks_lines slots ls ≡ xs → with_rest x xs ≡ Some asked → with_rest x (asks_lines slots (ls ++ line ∷ [])) ≡ Some (asked ++ a ∷ [])
     with_first None xs g r q = absurd (cc)
     with_first (Some x) None g r q = absurd (cc)
     with_first (Some x) (Some rest) g r q =
@@ -170,7 +176,10 @@ line_more slots script rest after line number faulted fault desk new old mid wri
 
 -- Ends
 
-carries_of : (slots : ℕ) (ls : List (List ℕ)) (asked : List Asked) (output : List ℕ) (events : List DeviceEvent) (r0 r1 f0 f1 : ℕ) → asks_lines slots ls ≡ Some asked → Carried (new_device slots) asked output events → IsCounted events r0 r1 f0 f1 → Carries slots ls output (counts r0 f0) (counts r1 f1)
+carries_of :
+    (slots : ℕ) (ls : List (List ℕ)) (asked : List Asked) (output : List ℕ) (events : List DeviceEvent) (r0 r1 f0 f1 : ℕ)
+    → asks_lines slots ls ≡ Some asked → Carried (new_device slots) asked output events → IsCounted events r0 r1 f0 f1
+    → Carries slots ls output (counts r0 f0) (counts r1 f1)
 carries_of slots ls asked output events r0 r1 f0 f1 asks carried counted =
     record {
       asked = asked;
@@ -179,7 +188,7 @@ carries_of slots ls asked output events r0 r1 f0 f1 asks carried counted =
       counted = subst (λ es. IsCounted es r0 r1 f0 f1) (sym (carried_events slots asked output events carried)) counted;
     }
 
--- a front after a whole
+-- a prefix after a whole
 appends_front : (old mid new : Option (List ℕ)) (xs ys : List ℕ) → Appends old mid xs → AppendsFront mid new ys → AppendsFront old new (xs ++ ys)
 appends_front old mid new xs ys a b = (
   length xs + b.0,
@@ -187,7 +196,7 @@ appends_front old mid new xs ys a b = (
   subst (λ z. Appends old new z) (sym (take-append-add xs ys b.0)) (appends_both old mid new xs (take b.0 ys) a b.2),
 )
 
--- a whole is a front of itself
+-- a whole is a prefix of itself
 whole_front : (old new : Option (List ℕ)) (xs : List ℕ) → Appends old new xs → AppendsFront old new xs
 whole_front old new xs a = (length xs, omega arith, subst (λ z. Appends old new z) (sym (take_all (length xs) xs (omega arith))) a)
 
@@ -220,7 +229,12 @@ stopped_at slots script rest after line number faulted desk old mid written r0 r
     record {
       count = number + 1;
       output = so_far.output ++ cut.text;
-      carries = carries_of slots (take (number + 1) (lines script)) (so_far.asked ++ cut.asked ∷ []) (so_far.output ++ cut.text) (so_far.events ++ cut.made.events) r0 r2 f0 f2 (ap (asks_lines slots) next.0 ∙ asks_more slots (take number (lines script)) line so_far.asked cut.asked so_far.asks cut.asks) (carried_more (new_device slots) so_far.asked cut.asked so_far.output cut.text so_far.events cut.made.events so_far.carried cut.made.does) (counted_both so_far.events cut.made.events r0 r1 r2 f0 f1 f2 so_far.counted cut.made.counted);
+      carries =
+          carries_of slots (take (number + 1) (lines script)) (so_far.asked ++ cut.asked ∷ []) (so_far.output ++ cut.text)
+          (so_far.events ++ cut.made.events) r0 r2 f0 f2
+          (ap (asks_lines slots) next.0 ∙ asks_more slots (take number (lines script)) line so_far.asked cut.asked so_far.asks cut.asks)
+          (carried_more (new_device slots) so_far.asked cut.asked so_far.output cut.text so_far.events cut.made.events so_far.carried cut.made.does)
+          (counted_both so_far.events cut.made.events r0 r1 r2 f0 f1 f2 so_far.counted cut.made.counted);
       written = appends_front old mid written so_far.output cut.text so_far.written cut.written;
     }
 stopped_at slots script rest after line number faulted desk old mid written r0 r1 r2 f0 f1 f2 s0 s1 stops.NoMemory so_far first stopping r f =
@@ -245,7 +259,10 @@ all_written : (slots : ℕ) (script rest : List ℕ) (number : ℕ) (faulted : B
 unfolding carries_of
 all_written slots script rest number faulted desk old written r0 r1 f0 f1 s0 s1 Failed so_far empty failed = record {
   output = so_far.output;
-  carries = carries_of slots (lines script) so_far.asked so_far.output so_far.events r0 r1 f0 f1 (ap (asks_lines slots) (sym (whole_take number (lines script) (so_far.left ∙ no_lines rest empty))) ∙ so_far.asks) so_far.carried so_far.counted;
+  carries =
+      carries_of slots (lines script) so_far.asked so_far.output so_far.events r0 r1 f0 f1
+      (ap (asks_lines slots) (sym (whole_take number (lines script) (so_far.left ∙ no_lines rest empty))) ∙ so_far.asks) so_far.carried
+      so_far.counted;
   written = so_far.written;
   failed = subst (λ es. Failed (finishes true es)) (sym (carried_events slots so_far.asked so_far.output so_far.events so_far.carried)) failed;
 }

@@ -1,4 +1,4 @@
--- The answers of calls are lines of their slots.
+-- The answers of calls are lines of their slots: each begins with its slot's number and ends with its only line feed.
 use Rattle.std.proofs.Common.{ℕ, ◌≡◌, ◌==◌, Bool, true, false, not, ◌&&◌, ◌||◌, List, [], ◌∷◌, ◌++◌, decimal, refl, sym, ap, ◌∙◌, append_assoc}
 use Rattle.std.specs.Prelude.{codes}
 use Rattle.std.specs.List.{list_all}
@@ -6,7 +6,7 @@ use Rattle.vc_base.specs.declared.Call.{Call}
 use Rattle.vc_base.specs.declared.Reply.{Reply}
 use Rattle.vc_model.specs.Coder.{the_coder}
 use Rattle.vc_model.specs.Script.{has_feed, begins_with, IsLineText}
-use Rattle.vc_model.proofs.Printing.{slots_print_their_own, same_events_same_lines}
+use Rattle.vc_model.proofs.EachSlotPrintsItsOwn.{slots_print_their_own, same_events_same_lines}
 use Rattle.vc_script.specs.declared.verb.Verb.{Verb}
 use Rattle.vc_script.specs.declared.verb.Verb.TheVariants as verbs
 use Rattle.vc_script.specs.Verb.{verb_name}
@@ -55,7 +55,8 @@ behind (x ∷ xs) ys zs e = let h : xs ++ ys ≡ xs ++ zs = cc in behind xs ys z
 whole_text : (k : ℕ) (request : Call) (reply : Reply) (handed : List ℕ) → reply_text k request reply handed ≡ decimal k ++ (32 ∷ (verb_name (call_verb request) ++ (spaced (answer_words request reply handed) ++ 10 ∷ [])))
 unfolding reply_text
 whole_text k request reply handed =
-    append_assoc (decimal k) (spaced (verb_name (call_verb request) ∷ answer_words request reply handed)) (10 ∷ []) ∙ ap (λ t. decimal k ++ (32 ∷ t)) (append_assoc (verb_name (call_verb request)) (spaced (answer_words request reply handed)) (10 ∷ []))
+    append_assoc (decimal k) (spaced (verb_name (call_verb request) ∷ answer_words request reply handed)) (10 ∷ [])
+    ∙ ap (λ t. decimal k ++ (32 ∷ t)) (append_assoc (verb_name (call_verb request)) (spaced (answer_words request reply handed)) (10 ∷ []))
 
 pub line_texts : IsLineText reply_text
 line_texts k request reply handed few known =

@@ -1,4 +1,5 @@
--- The text of a line, and the events that are read off it.
+-- The text of a line tells its events: claims, finishes and blocked calls have texts of their own, so the events that are read off
+-- a text are those that printed it.
 use Rattle.std.proofs.Common.{ℕ, ◌≡◌, ◌-◌, ◌≤◌, ltb, Bool, true, false, not, cond, is_none, Option, Some, None, List, [], ◌∷◌, ◌++◌, length, drop, decimal, refl, sym, ap, ◌∙◌, arith, append_assoc}
 use Rattle.std.specs.Prelude.{codes, bytes_eq}
 use Rattle.std.proofs.lemmas.List.{append-nil}
@@ -24,7 +25,7 @@ use Rattle.vc_model.specs.Script.{AsksNothing, AsksCall, AsksClaim, AsksFinish, 
 use Rattle.vc_script.specs.Texts.{reply_text, claim_text, no_claim_text, busy_text, finish_text, idle_text}
 use Rattle.vc_script.proofs.OneLine.{reply_is_line, claim_is_line, finish_is_line, want_told}
 use Rattle.vc_top.specs.Does.{LineDoes}
-use Rattle.vc_top.proofs.Feeds.{OneLine, OnLine, slot_line, whole_line, whole_lines, drop_end}
+use Rattle.vc_top.proofs.TextsEndInLines.{OneLine, OnLine, slot_line, whole_line, whole_lines, drop_end}
 
 -- Words of finishes
 
@@ -119,17 +120,28 @@ claim_busy d worker k e =
 
 pub claim_none : (d : DeviceState) (worker : ℕ) → job_of d worker ≡ None → (device_step the_coder d (claim worker)).reply ≡ NoJob → LineDoes d (AsksClaim worker) no_claim_text (claim worker ∷ [])
 claim_none d worker e r =
-    record { whole = whole_line no_claim_text none_line; events_read = ap (λ b. cond b (claim worker ∷ []) []) (free (job_of d worker) e); told = sym (append-nil (device_text reply_text (claim worker) (device_step the_coder d (claim worker)).reply) ∙ ap (device_text reply_text (claim worker)) r) }
+    record {
+      whole = whole_line no_claim_text none_line;
+      events_read = ap (λ b. cond b (claim worker ∷ []) []) (free (job_of d worker) e);
+      told = sym (append-nil (device_text reply_text (claim worker) (device_step the_coder d (claim worker)).reply) ∙ ap (device_text reply_text (claim worker)) r);
+    }
 
 pub claim_took : (d : DeviceState) (worker k : ℕ) → job_of d worker ≡ None → (device_step the_coder d (claim worker)).reply ≡ Told k Claimed → LineDoes d (AsksClaim worker) (claim_text k) (claim worker ∷ [])
 claim_took d worker k e r =
-    record { whole = whole_line (claim_text k) (claim_line k); events_read = ap (λ b. cond b (claim worker ∷ []) []) (free (job_of d worker) e); told = sym (append-nil (device_text reply_text (claim worker) (device_step the_coder d (claim worker)).reply) ∙ ap (device_text reply_text (claim worker)) r) }
+    record {
+      whole = whole_line (claim_text k) (claim_line k);
+      events_read = ap (λ b. cond b (claim worker ∷ []) []) (free (job_of d worker) e);
+      told = sym (append-nil (device_text reply_text (claim worker) (device_step the_coder d (claim worker)).reply) ∙ ap (device_text reply_text (claim worker)) r);
+    }
 
 pub finish_idles : (d : DeviceState) (worker : ℕ) → job_of d worker ≡ None → LineDoes d (AsksFinish worker) idle_text []
 finish_idles d worker e =
     record { whole = whole_line idle_text idle_line; events_read = ap (λ b. cond b [] (finish worker (fault_in idle_text) ∷ [])) (free (job_of d worker) e); told = refl }
 
-pub finish_ends : (d : DeviceState) (worker k i : ℕ) (j : JobData) (fault : Bool) → job_of d worker ≡ Some i → (device_step the_coder d (finish worker fault)).reply ≡ Told k (Finished (finish_word the_coder j fault)) → LineDoes d (AsksFinish worker) (finish_text k (finish_word the_coder j fault)) (finish worker fault ∷ [])
+pub finish_ends :
+    (d : DeviceState) (worker k i : ℕ) (j : JobData) (fault : Bool) → job_of d worker ≡ Some i
+    → (device_step the_coder d (finish worker fault)).reply ≡ Told k (Finished (finish_word the_coder j fault))
+    → LineDoes d (AsksFinish worker) (finish_text k (finish_word the_coder j fault)) (finish worker fault ∷ [])
 finish_ends d worker k i j fault e r =
     let text = finish_text k (finish_word the_coder j fault) in
     record {
@@ -149,20 +161,36 @@ run_busy d worker k e =
 pub run_none : (d : DeviceState) (worker : ℕ) → job_of d worker ≡ None → d.waiting ≡ [] → (device_step the_coder d (claim worker)).reply ≡ NoJob → LineDoes d (AsksRun worker) no_claim_text (claim worker ∷ [])
 run_none d worker e w r =
     record {
-      whole = λ more. ap (λ b. first_lines (no_claim_text ++ more) (cond b (cond (is_empty d.waiting) 1 2) 1)) (free (job_of d worker) e) ∙ (ap (λ l. first_lines (no_claim_text ++ more) (cond (is_empty l) 1 2)) w ∙ whole_line no_claim_text none_line more);
+      whole =
+          λ more.
+          ap (λ b. first_lines (no_claim_text ++ more) (cond b (cond (is_empty d.waiting) 1 2) 1)) (free (job_of d worker) e)
+          ∙ (ap (λ l. first_lines (no_claim_text ++ more) (cond (is_empty l) 1 2)) w ∙ whole_line no_claim_text none_line more);
       events_read = ap (λ b. run_events worker b (is_empty d.waiting) (fault_in no_claim_text)) (free (job_of d worker) e) ∙ ap (λ l. run_events worker true (is_empty l) (fault_in no_claim_text)) w;
       told = sym (append-nil (device_text reply_text (claim worker) (device_step the_coder d (claim worker)).reply) ∙ ap (device_text reply_text (claim worker)) r);
     }
 
-pub run_ends : (d : DeviceState) (worker i k : ℕ) (rest : List ℕ) (j : JobData) (fault : Bool) → job_of d worker ≡ None → d.waiting ≡ i ∷ rest → (device_step the_coder d (claim worker)).reply ≡ Told i Claimed → (device_step the_coder (device_step the_coder d (claim worker)).device (finish worker fault)).reply ≡ Told k (Finished (finish_word the_coder j fault)) → LineDoes d (AsksRun worker) (claim_text i ++ finish_text k (finish_word the_coder j fault)) (claim worker ∷ finish worker fault ∷ [])
+pub run_ends :
+    (d : DeviceState) (worker i k : ℕ) (rest : List ℕ) (j : JobData) (fault : Bool) → job_of d worker ≡ None → d.waiting ≡ i ∷ rest
+    → (device_step the_coder d (claim worker)).reply ≡ Told i Claimed
+    → (device_step the_coder (device_step the_coder d (claim worker)).device (finish worker fault)).reply ≡ Told k (Finished (finish_word the_coder j fault))
+    → LineDoes d (AsksRun worker) (claim_text i ++ finish_text k (finish_word the_coder j fault)) (claim worker ∷ finish worker fault ∷ [])
 run_ends d worker i k rest j fault e w r q =
     let text = finish_text k (finish_word the_coder j fault) in
     let both = claim_text i ++ text in
     let mid = (device_step the_coder d (claim worker)).device in
     record {
-      whole = λ more. ap (λ b. first_lines (both ++ more) (cond b (cond (is_empty d.waiting) 1 2) 1)) (free (job_of d worker) e) ∙ (ap (λ l. first_lines (both ++ more) (cond (is_empty l) 1 2)) w ∙ whole_lines (claim_text i) text (claim_line i) (finish_line k j fault) more);
-      events_read = ap (λ b. run_events worker b (is_empty d.waiting) (fault_in both)) (free (job_of d worker) e) ∙ (ap (λ l. run_events worker true (is_empty l) (fault_in both)) w ∙ ap (λ b. claim worker ∷ finish worker b ∷ []) (fault_read_behind the_coder (claim_text i) k j fault));
-      told = sym (ap (λ t. device_text reply_text (claim worker) (device_step the_coder d (claim worker)).reply ++ t) (append-nil (device_text reply_text (finish worker fault) (device_step the_coder mid (finish worker fault)).reply) ∙ ap (device_text reply_text (finish worker fault)) q) ∙ ap (λ x. device_text reply_text (claim worker) x ++ text) r);
+      whole =
+          λ more.
+          ap (λ b. first_lines (both ++ more) (cond b (cond (is_empty d.waiting) 1 2) 1)) (free (job_of d worker) e)
+          ∙ (ap (λ l. first_lines (both ++ more) (cond (is_empty l) 1 2)) w ∙ whole_lines (claim_text i) text (claim_line i) (finish_line k j fault) more);
+      events_read =
+          ap (λ b. run_events worker b (is_empty d.waiting) (fault_in both)) (free (job_of d worker) e)
+          ∙ (ap (λ l. run_events worker true (is_empty l) (fault_in both)) w ∙ ap (λ b. claim worker ∷ finish worker b ∷ []) (fault_read_behind the_coder (claim_text i) k j fault));
+      told =
+          sym
+          (ap (λ t. device_text reply_text (claim worker) (device_step the_coder d (claim worker)).reply ++ t)
+          (append-nil (device_text reply_text (finish worker fault) (device_step the_coder mid (finish worker fault)).reply) ∙ ap (device_text reply_text (finish worker fault)) q)
+          ∙ ap (λ x. device_text reply_text (claim worker) x ++ text) r);
     }
 
 -- Calls
@@ -193,12 +221,16 @@ without_memory None (SetCtrl id value) bytes e = refl
 without_memory None Poll bytes e = refl
 without_memory (Some c) (ReqBufs side count) bytes e = counted c (reqbufs_refusal (queue_of c side)) _ _ e
   where
-    counted : (c : Context) (o : Option Errno) (x : Context) (n : ℕ) → (unless c o (if_found c true (answered x (Count n)))).reply ≡ Refused NoMem → unless c o (if_found c true (answered x (Count n))) ≡ unless c o (if_found c false (answered x (Count n)))
+    counted :
+        (c : Context) (o : Option Errno) (x : Context) (n : ℕ) → (unless c o (if_found c true (answered x (Count n)))).reply ≡ Refused NoMem
+        → unless c o (if_found c true (answered x (Count n))) ≡ unless c o (if_found c false (answered x (Count n)))
     counted c (Some errno) x n e = refl
     counted c None x n e = absurd (cc)
 without_memory (Some c) (CreateBufs side count size) bytes e = made c (create_refusal (queue_of c side) count size) _ _ _ e
   where
-    made : (c : Context) (o : Option Errno) (x : Context) (n m : ℕ) → (unless c o (if_found c true (answered x (Created n m)))).reply ≡ Refused NoMem → unless c o (if_found c true (answered x (Created n m))) ≡ unless c o (if_found c false (answered x (Created n m)))
+    made :
+        (c : Context) (o : Option Errno) (x : Context) (n m : ℕ) → (unless c o (if_found c true (answered x (Created n m)))).reply ≡ Refused NoMem
+        → unless c o (if_found c true (answered x (Created n m))) ≡ unless c o (if_found c false (answered x (Created n m)))
     made c (Some errno) x n m e = refl
     made c None x n m e = absurd (cc)
 without_memory (Some c) (Open kind) bytes e = refl
@@ -236,7 +268,11 @@ want_text : (slot : ℕ) (request : Call) (xs ys : List ℕ) → reply_text slot
 unfolding reply_text
 want_text slot request xs ys = refl
 
-found_or_not : (d : DeviceState) (slot : ℕ) (request : Call) (bytes : List ℕ) (found : Bool) (told : Reply) (handed payload : List ℕ) → (device_step the_coder d (call slot request bytes found)).reply ≡ Told slot (Answered told handed) → (found ≡ false → told ≡ Refused NoMem) → (t : Bool) → bytes_eq (reply_text slot request told payload) (reply_text slot request (Refused NoMem) []) ≡ t → device_step the_coder d (call slot request bytes (not t)) ≡ device_step the_coder d (call slot request bytes found)
+found_or_not :
+    (d : DeviceState) (slot : ℕ) (request : Call) (bytes : List ℕ) (found : Bool) (told : Reply) (handed payload : List ℕ)
+    → (device_step the_coder d (call slot request bytes found)).reply ≡ Told slot (Answered told handed) → (found ≡ false → told ≡ Refused NoMem)
+    → (t : Bool) → bytes_eq (reply_text slot request told payload) (reply_text slot request (Refused NoMem) []) ≡ t
+    → device_step the_coder d (call slot request bytes (not t)) ≡ device_step the_coder d (call slot request bytes found)
 unfolding device_step
 found_or_not d slot request bytes false told handed payload r want true e = refl
 found_or_not d slot request bytes true told handed payload r want false e = refl
@@ -248,11 +284,17 @@ found_or_not d slot request bytes true told handed payload r want true e =
     let a = answer (slot_of d slot) request bytes true in
     ap (λ x. cond (ltb slot (length d.slots)) (call_answered d slot x) (ignored d)) (sym (without_memory (slot_of d slot) request bytes (told_reply d slot a (ltb slot (length d.slots)) told handed r ∙ wants)))
 
-pub call_read : (d : DeviceState) (slot : ℕ) (request : Call) (bytes : List ℕ) (found : Bool) (told : Reply) (handed payload : List ℕ) → (device_step the_coder d (call slot request bytes found)).reply ≡ Told slot (Answered told handed) → (found ≡ false → told ≡ Refused NoMem) → ReadsCall d slot request bytes found (reply_text slot request told payload)
+pub call_read :
+    (d : DeviceState) (slot : ℕ) (request : Call) (bytes : List ℕ) (found : Bool) (told : Reply) (handed payload : List ℕ)
+    → (device_step the_coder d (call slot request bytes found)).reply ≡ Told slot (Answered told handed) → (found ≡ false → told ≡ Refused NoMem)
+    → ReadsCall d slot request bytes found (reply_text slot request told payload)
 call_read d slot request bytes found told handed payload r want =
     record { same = found_or_not d slot request bytes found told handed payload r want (bytes_eq (reply_text slot request told payload) (reply_text slot request (Refused NoMem) [])) refl }
 
-pub call_does : (d : DeviceState) (slot : ℕ) (request : Call) (bytes : List ℕ) (found : Bool) (told : Reply) (handed : List ℕ) → (device_step the_coder d (call slot request bytes found)).reply ≡ Told slot (Answered told handed) → (found ≡ false → told ≡ Refused NoMem) → LineDoes d (AsksCall slot request bytes) (reply_text slot request told handed) (call slot request bytes (found_in reply_text slot request (reply_text slot request told handed)) ∷ [])
+pub call_does :
+    (d : DeviceState) (slot : ℕ) (request : Call) (bytes : List ℕ) (found : Bool) (told : Reply) (handed : List ℕ)
+    → (device_step the_coder d (call slot request bytes found)).reply ≡ Told slot (Answered told handed) → (found ≡ false → told ≡ Refused NoMem)
+    → LineDoes d (AsksCall slot request bytes) (reply_text slot request told handed) (call slot request bytes (found_in reply_text slot request (reply_text slot request told handed)) ∷ [])
 call_does d slot request bytes found told handed r want =
     let text = reply_text slot request told handed in
     let e = call slot request bytes (found_in reply_text slot request text) in
