@@ -1,2 +1,3 @@
+pub mod NewBuffersAreZeros
 pub mod QueuesCountUp
 pub mod RunsAreResults

@@ -1,4 +1,5 @@
 pub mod Contexts
 pub mod Laws
 pub mod Payloads
+pub mod Serving
 pub mod Works

@@ -1,5 +1,5 @@
 -- What a call does to the payloads that the user holds.
-use Rattle.std.specs.Prelude.{ℕ, ◌≡◌, ◌≤◌, ◌++◌, length, take, replicate, Some, None, List, [], ◌∷◌}
+use Rattle.std.specs.Prelude.{ℕ, ◌≡◌, ◌≤◌, ◌<◌, ◌++◌, length, take, replicate, Some, None, List, [], ◌∷◌}
 use Rattle.vc_base.specs.declared.Side.{Side}
 use Rattle.vc_base.specs.declared.Side.TheVariants.{Out, Cap}
 use Rattle.vc_base.specs.declared.Call.{Call}
@@ -7,15 +7,16 @@ use Rattle.vc_base.specs.declared.Call.TheVariants.{Close, ReqBufs, CreateBufs, 
 use Rattle.vc_base.specs.declared.Reply.{Reply}
 use Rattle.vc_base.specs.declared.Reply.TheVariants.{Done, Count, Created, Taken}
 use Rattle.vc_base.specs.Buffers.{Buffer, known_bytes, new_queue}
-use Rattle.vc_model.specs.Context.{Context, Slot, queue_of}
+use Rattle.vc_base.specs.Limits.{most_buffers}
+use Rattle.vc_model.specs.Context.{Context, Slot, queue_of, sizeimage}
 use Rattle.vc_queue.specs.Answers.{queued_bytes}
-use Rattle.vc_queue.specs.Growing.{KeepsFirst}
+use Rattle.vc_queue.specs.Growing.{KeepsFirst, AreZero}
 use Rattle.vc_queue.specs.Holds.{HoldState, Fits, with_payload}
 use Rattle.vc_queue.specs.Releasing.{AllGoToUser}
 
 -- no payload is held
 abbrev pub empty_hold : HoldState
-empty_hold = record { out = replicate 32 None; cap = replicate 32 None }
+empty_hold = record { out = replicate most_buffers None; cap = replicate most_buffers None }
 
 -- The payloads fit the context: the user holds one of the buffer's size exactly for each held buffer.
 pub record FitsContext (c : Context) (hold : HoldState) : Type 0 where
@@ -68,3 +69,19 @@ Moves s (DqBuf side block) (Taken index used flags seq stamp) old new =
     HandsOut side index used flags (handed_out s side) old new
 Moves s (StreamOff side) Done old new = AllGoToUser side (given_back s side) old new
 Moves s request reply old new = new ≡ old
+
+-- The payloads of the buffers that the call made are zeros. Those of ReqBufs are as long as the format of the side says.
+abbrev pub AreNewZeros : Context → Call → Reply → HoldState → Type 0
+AreNewZeros c (ReqBufs side count) (Count number) hold = AreZero side 0 number (sizeimage c side) hold
+AreNewZeros c (CreateBufs side count size) (Created first number) hold = AreZero side first number size hold
+AreNewZeros c request reply hold = Unit {0}
+
+abbrev pub HasNewZeros : Slot → Call → Reply → HoldState → Type 0
+HasNewZeros None request reply hold = Unit {0}
+HasNewZeros (Some c) request reply hold = AreNewZeros c request reply hold
+
+-- a call that makes buffers asks for one at least
+abbrev pub AsksForBuffers : Call → Type 0
+AsksForBuffers (ReqBufs side count) = 0 < count
+AsksForBuffers (CreateBufs side count size) = 0 < count
+AsksForBuffers request = Unit {0}

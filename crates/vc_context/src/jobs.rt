@@ -36,13 +36,7 @@ pub fn source_of(lent: Lent) -> Piece
 pub fn dest_of(lent: Lent) -> Vec<u8>
     ensures payload { result.items ≡ lent.payload.items }
 {
-    let Lent {
-        index: _,
-        used: _,
-        cursor: _,
-        stamp: _,
-        payload,
-    } = lent;
+    let Lent { payload, .. } = lent;
     payload
 }
 

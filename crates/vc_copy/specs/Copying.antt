@@ -5,6 +5,7 @@ use Rattle.vc_base.specs.declared.Format.{Format}
 use Rattle.vc_base.specs.Buffers.{QueueState}
 use Rattle.vc_base.specs.Limits.{error_flag}
 use Rattle.vc_base.specs.Events.{no_events}
+use Rattle.vc_defs.specs.Encoder.{default_rates}
 use Rattle.vc_model.specs.Formats.{FormatPair, data_format}
 use Rattle.vc_model.specs.Coder.{no_codec}
 use Rattle.vc_model.specs.Context.{Context, Running, run, copy}
@@ -37,7 +38,7 @@ copier_state size out cap running =
       kind = Copy;
       formats = data_formats size;
       geometry = None;
-      rates = record { gop = 10; iqp = 20; pqp = 20 };
+      rates = default_rates;
       out = out;
       cap = cap;
       phase = run;
@@ -56,7 +57,7 @@ pub record IsGiven (j : JobData) (source_lent dest_lent : Lent) (data_format : F
   pub geometry : j.geometry ≡ None
   pub format : data_format ≡ j.format
   pub limit : data_format.size ≡ j.limit
-  pub rates : j.rates ≡ record { gop = 10; iqp = 20; pqp = 20 }
+  pub rates : j.rates ≡ default_rates
 
 -- the data of the job that the context gives at a claim
 abbrev pub claimed_data : Context → JobData

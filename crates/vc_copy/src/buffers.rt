@@ -1,12 +1,12 @@
 //! Buffers: VIDIOC_REQBUFS, VIDIOC_CREATE_BUFS, VIDIOC_QUERYBUF, VIDIOC_QBUF and VIDIOC_DQBUF.
 
-ghost use Rattle.std.specs.Prelude.{Some};
 ghost use Rattle.vc_base.specs.declared.Call.TheVariants.{ReqBufs, CreateBufs, QBuf, DqBuf};
 ghost use Rattle.vc_base.specs.Buffers.{querybuf_reply};
 ghost use Rattle.vc_model.specs.Context.{queue_of};
 ghost use Rattle.vc_model.specs.Answer.{reqbufs_answer, create_answer, query_answer, qbuf_answer, dqbuf_answer};
-ghost use Rattle.vc_context.specs.Contexts.{HasRoom, Gives, GivesWithMemory, IsKept, IsStep};
-ghost use Rattle.vc_context.specs.Payloads.{FitsContext, Moves, handed_over};
+ghost use Rattle.vc_context.specs.Contexts.{Gives, GivesWithMemory};
+ghost use Rattle.vc_context.specs.Payloads.{handed_over};
+ghost use Rattle.vc_context.specs.Serving.{CanServe, CarriesOut};
 
 use crate::Copier;
 use std::alloc::Global;
@@ -23,12 +23,9 @@ impl Copier {
         count: u32,
         hold: &mut Hold,
     ) -> Reply
-        requires kept { IsKept self.old }
-        requires fits { FitsContext self.old hold.old }
+        requires able { CanServe self.old hold.old }
         ensures answers { GivesWithMemory (reqbufs_answer self.old side count) result self.new }
-        ensures step { IsStep self.old self.new }
-        ensures moves { Moves (Some self.old) (ReqBufs side count) result hold.old hold.new }
-        ensures fit { FitsContext self.new hold.new }
+        ensures carried { CarriesOut (ReqBufs side count) result self.old self.new hold.old hold.new }
     {
         let size = self.size;
         match side {
@@ -46,12 +43,9 @@ impl Copier {
         length: u32,
         hold: &mut Hold,
     ) -> Reply
-        requires kept { IsKept self.old }
-        requires fits { FitsContext self.old hold.old }
+        requires able { CanServe self.old hold.old }
         ensures answers { GivesWithMemory (create_answer self.old side count length) result self.new }
-        ensures step { IsStep self.old self.new }
-        ensures moves { Moves (Some self.old) (CreateBufs side count length) result hold.old hold.new }
-        ensures fit { FitsContext self.new hold.new }
+        ensures carried { CarriesOut (CreateBufs side count length) result self.old self.new hold.old hold.new }
     {
         match side {
             Side::Out => created(self.out.create(alloc, count, length, hold)),
@@ -78,13 +72,9 @@ impl Copier {
         stamp: Stamp,
         hold: &mut Hold,
     ) -> Reply
-        requires kept { IsKept self.old }
-        requires fits { FitsContext self.old hold.old }
-        requires room { HasRoom self.old }
+        requires able { CanServe self.old hold.old }
         ensures answers { Gives (qbuf_answer self.old side index used stamp (handed_over (QBuf side index used stamp) hold.old)) result self.new }
-        ensures step { IsStep self.old self.new }
-        ensures moves { Moves (Some self.old) (QBuf side index used stamp) result hold.old hold.new }
-        ensures fit { FitsContext self.new hold.new }
+        ensures carried { CarriesOut (QBuf side index used stamp) result self.old self.new hold.old hold.new }
     {
         let least = self.size;
         match side {
@@ -95,12 +85,9 @@ impl Copier {
 
     /// Moves the front of done to the user.
     pub(crate) fn dqbuf(&mut self, side: Side, block: bool, hold: &mut Hold) -> Reply
-        requires kept { IsKept self.old }
-        requires fits { FitsContext self.old hold.old }
+        requires able { CanServe self.old hold.old }
         ensures answers { Gives (dqbuf_answer self.old side block) result self.new }
-        ensures step { IsStep self.old self.new }
-        ensures moves { Moves (Some self.old) (DqBuf side block) result hold.old hold.new }
-        ensures fit { FitsContext self.new hold.new }
+        ensures carried { CarriesOut (DqBuf side block) result self.old self.new hold.old hold.new }
     {
         match side {
             Side::Out => taken_or_blocked(block, self.out.dqbuf(false, hold)),

@@ -1,15 +1,11 @@
 //! The jobs of a copying context.
 
 ghost use Rattle.std.specs.Prelude.{◌≡◌, ◌≤◌, not, ◌&&◌, is_some, true, false, vec_len, Some};
-ghost use Rattle.vc_queue.specs.Holds.{HoldState};
 ghost use Rattle.vc_work.specs.Runs.{Fits};
-ghost use Rattle.vc_model.specs.Core.{BroughtBack, finished_context, claimed_in};
-ghost use Rattle.vc_model.specs.Runs.{JobData, is_claimable, after_claim};
-ghost use Rattle.vc_model.specs.Standing.{without_job};
-ghost use Rattle.vc_context.specs.Contexts.{HasRoom, IsKept, IsStep};
-ghost use Rattle.vc_context.specs.Payloads.{FitsContext};
-ghost use Rattle.vc_context.specs.Works.{IsWork, IsWorkWith, RunsIn, RunsInWith, IsBack, IsBackOf};
+ghost use Rattle.vc_model.specs.Runs.{JobData, is_claimable};
+ghost use Rattle.vc_context.specs.Works.{IsWork};
 ghost use Rattle.vc_copy.specs.Copying.{IsGiven, brought_used, brought_flags};
+ghost use Rattle.vc_context.specs.Serving.{CanClaim, CanFinish, IsClaimed, IsFinished};
 
 use crate::Copier;
 use crate::formats::data_format;
@@ -82,15 +78,8 @@ impl Copier {
 
     /// Takes the front buffers of both queues into a job.
     pub fn claim(&mut self) -> Work
-        requires kept { IsKept self.old }
-        requires due { is_claimable (Some self.old) ≡ true }
-        ensures after { self.new ≡ without_job (after_claim self.old) }
-        ensures step { IsStep self.old self.new }
-        ensures work { IsWorkWith (claimed_in (Some self.old)) result }
-        ensures fits { Fits result }
-        ensures taken { is_claimable (Some self.new) ≡ false }
-        ensures runs { RunsInWith self.new (claimed_in (Some self.old)) }
-        ensures holds { (hold : HoldState) → FitsContext self.old hold → FitsContext self.new hold }
+        requires able { CanClaim self.old }
+        ensures claimed { IsClaimed self.old self.new result }
     {
         let source = self.out.lend();
         let dest = self.cap.lend();
@@ -102,12 +91,8 @@ impl Copier {
 
     /// Takes the buffers of a job back: they go to done.
     pub fn finish(&mut self, work: Work, outcome: Result<Outcome, EngineFault>)
-        requires kept { IsKept self.old }
-        requires room { HasRoom self.old }
-        requires back { IsBackOf self.old work outcome }
-        ensures after { (back : BroughtBack) → RunsIn self.old back.job → IsBack back work outcome → self.new ≡ finished_context self.old back }
-        ensures holds { (hold : HoldState) → FitsContext self.old hold → FitsContext self.new hold }
-        ensures step { IsStep self.old self.new }
+        requires able { CanFinish self.old work outcome }
+        ensures finished { IsFinished self.old self.new work outcome }
     {
         self.running = false;
         let (used, flags) = brought(&outcome);

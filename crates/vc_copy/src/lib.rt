@@ -9,8 +9,9 @@ ghost use Rattle.vc_base.specs.declared.Kind.TheVariants.{Copy};
 ghost use Rattle.vc_model.specs.Context.{fresh_context};
 ghost use Rattle.vc_model.specs.Answer.{context_answer};
 ghost use Rattle.vc_model.specs.Core.{unless_memory};
-ghost use Rattle.vc_context.specs.Contexts.{HasRoom, GivesWithMemory, IsKept, IsStep, TakesMemory, is_close};
-ghost use Rattle.vc_context.specs.Payloads.{FitsContext, Moves, handed_over};
+ghost use Rattle.vc_context.specs.Contexts.{GivesWithMemory, TakesMemory, is_close};
+ghost use Rattle.vc_context.specs.Payloads.{handed_over};
+ghost use Rattle.vc_context.specs.Serving.{CanServe, CarriesOut};
 
 mod buffers;
 mod formats;
@@ -68,14 +69,11 @@ impl Copier {
     /// Answers a call other than Open and Close.
     pub fn answer(&mut self, alloc: Global, call: &Call, hold: &mut Hold) -> Reply
         requires other { is_close call.now ≡ false }
-        requires kept { IsKept self.old }
-        requires fits { FitsContext self.old hold.old }
-        requires room { HasRoom self.old }
+        requires able { CanServe self.old hold.old }
         ensures answers { GivesWithMemory (context_answer self.old call.now (handed_over call.now hold.old)) result self.new }
-        ensures step { IsStep self.old self.new }
-        ensures moves { Moves (Some self.old) call.now result hold.old hold.new }
-        ensures fit { FitsContext self.new hold.new }
+        ensures carried { CarriesOut call.now result self.old self.new hold.old hold.new }
     {
+        // What a copying context answers is known of its parts alone, so the proof looks at them.
         let _ = &self.size;
         match *call {
             Call::EnumFmt { side, index } => self.enum_format(side, index),
@@ -116,6 +114,7 @@ impl Copier {
         requires { TakesMemory call.now }
         ensures { result ≡ unless_memory (context_answer self.now call.now [] false).reply }
     {
+        // What a copying context answers is known of its parts alone, so the proof looks at them.
         let _ = &self.size;
         match *call {
             Call::ReqBufs { side, .. } => match side {

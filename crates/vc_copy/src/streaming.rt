@@ -1,10 +1,10 @@
 //! Streaming, and what can be had without waiting: VIDIOC_STREAMON, VIDIOC_STREAMOFF and poll().
 
-ghost use Rattle.std.specs.Prelude.{◌≡◌, Some};
+ghost use Rattle.std.specs.Prelude.{◌≡◌};
 ghost use Rattle.vc_base.specs.declared.Call.TheVariants.{StreamOff};
 ghost use Rattle.vc_model.specs.Answer.{streamon_answer, streamoff_answer, unchanged, readiness};
 ghost use Rattle.vc_context.specs.Contexts.{Gives, IsKept, IsStep};
-ghost use Rattle.vc_context.specs.Payloads.{FitsContext, Moves};
+ghost use Rattle.vc_context.specs.Serving.{CanServe, CarriesOut};
 
 use crate::Copier;
 use vc_base::{Reply, Side};
@@ -28,12 +28,9 @@ impl Copier {
 
     /// Ends streaming of a queue, unless a job runs: its ready and done buffers go back to the user.
     pub(crate) fn streamoff(&mut self, side: Side, hold: &mut Hold) -> Reply
-        requires kept { IsKept self.old }
-        requires fits { FitsContext self.old hold.old }
+        requires able { CanServe self.old hold.old }
         ensures answers { Gives (streamoff_answer self.old side) result self.new }
-        ensures step { IsStep self.old self.new }
-        ensures moves { Moves (Some self.old) (StreamOff side) result hold.old hold.new }
-        ensures fit { FitsContext self.new hold.new }
+        ensures carried { CarriesOut (StreamOff side) result self.old self.new hold.old hold.new }
     {
         if self.running {
             return Reply::Blocked;

@@ -1,12 +1,15 @@
 //! The device.
 
 ghost use Rattle.std.specs.Prelude.{◌≡◌, ◌≢◌, ◌<◌, ◌≤◌, ◌+◌, ◌^◌, ℕ, length, IfOk, IfSome, None, replicate};
+ghost use Rattle.vc_base.specs.Limits.{most_slots, most_workers};
+ghost use Rattle.vc_base.specs.declared.Errno.TheVariants.{NoMem};
+ghost use Rattle.vc_base.specs.declared.Reply.TheVariants.{Refused};
 ghost use Rattle.vc_model.specs.Devices.{slot_of, job_of, steps_of};
 ghost use Rattle.vc_model.specs.Core.{BroughtBack, new_core, core_claim, core_finish, core_shut, claimed_job, before_memory};
 ghost use Rattle.vc_core.specs.Jobs.{Brings, HasJob, IsClaim, IsJobOfWorker, IsOfWorker};
 ghost use Rattle.vc_queue.specs.Holds.{HoldState};
 ghost use Rattle.vc_context.specs.Contexts.{TakesMemory};
-ghost use Rattle.vc_context.specs.Payloads.{FitsSlot, Moves};
+ghost use Rattle.vc_context.specs.Payloads.{FitsSlot, Moves, HasNewZeros, AsksForBuffers};
 ghost use Rattle.vc_core.specs.Steps.{IsCall};
 
 use crate::job::{Finished, Job};
@@ -68,13 +71,13 @@ fn steps_of(reply: &Reply) -> u64
 }
 
 impl Core {
-    /// A device of 1 to 1,024 closed slots and 1 to 64 workers without a job.
+    /// A device of 1 to [`MOST_SLOTS`] closed slots and 1 to [`MOST_WORKERS`] workers without a job.
     ///
     /// # Errors
     /// `NoMemory` where memory for it was refused.
     pub fn make(alloc: Global, slots: u32, workers: u32) -> Result<Core, NoMemory>
-        requires slots { (0 < slots) × (slots ≤ 1024) }
-        requires workers { (0 < workers) × (workers ≤ 64) }
+        requires slots { (0 < slots) × (slots ≤ most_slots) }
+        requires workers { (0 < workers) × (workers ≤ most_workers) }
         ensures { IfOk result (λ core. core ≡ new_core slots workers) }
     {
         let list = JobList::make(alloc, slots)?;
@@ -92,13 +95,16 @@ impl Core {
 
     /// Makes a call on a slot, counted from 0, with the payloads of the slot's user, which fit the slot's
     /// queues. docs/DEVICE.md has the table of calls: the tests of a call are made in order, a refusal and
-    /// `Blocked` change nothing, and ENOMEM comes after every other test.
+    /// `Blocked` change nothing, and ENOMEM comes after every other test, and only where memory was asked for. What
+    /// new buffers hold are zeros.
     pub fn call(&mut self, slot: u32, call: &Call, hold: &mut Hold) -> Reply
         requires slot { slot < length self.old.slots }
         requires fits { FitsSlot (slot_of self.old slot) hold.old }
         requires counts { self.old.steps < 2 ^ 62 }
         ensures step { IsCall self.old slot call.now hold.old result self.new }
         ensures payloads { Moves (slot_of self.old slot) call.now result hold.old hold.new }
+        ensures zeros { HasNewZeros (slot_of self.old slot) call.now result hold.new }
+        ensures asked { result ≡ Refused NoMem → AsksForBuffers call.now }
         ensures fit { FitsSlot (slot_of self.new slot) hold.new }
         ensures others { (k : ℕ) → k ≢ slot → slot_of self.new k ≡ slot_of self.old k }
         ensures size { length self.new.slots ≡ length self.old.slots }

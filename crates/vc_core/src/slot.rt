@@ -4,6 +4,8 @@ ghost use Rattle.std.specs.Prelude.{◌≡◌, ℕ, true, false, is_some, Some, 
 ghost use Rattle.std.specs.Option.{option_map};
 ghost use Rattle.vc_base.specs.declared.Kind.TheVariants.{Copy, Enc, Dec};
 ghost use Rattle.vc_base.specs.declared.Call.TheVariants.{Open, Close};
+ghost use Rattle.vc_base.specs.declared.Errno.TheVariants.{NoMem};
+ghost use Rattle.vc_base.specs.declared.Reply.TheVariants.{Refused};
 ghost use Rattle.vc_model.specs.Core.{BroughtBack, claimed_in, before_memory, unless_memory};
 ghost use Rattle.vc_model.specs.Answer.{closed_answer};
 ghost use Rattle.vc_model.specs.Runs.{is_claimable};
@@ -12,7 +14,7 @@ ghost use Rattle.vc_context.specs.Contexts.{TakesMemory, is_close};
 ghost use Rattle.vc_core.specs.Slots.{IsKeptSlot, IsStepOfSlot, SlotHasRoom, IsAnswer, opened_kind, claimed_slot, finished_slot};
 ghost use Rattle.vc_core.specs.Jobs.{IsJobWith, RunsWith, IsOfSlot, RunsInSlot, Brings};
 ghost use Rattle.vc_queue.specs.Holds.{HoldState};
-ghost use Rattle.vc_context.specs.Payloads.{FitsSlot, Moves, handed_over};
+ghost use Rattle.vc_context.specs.Payloads.{FitsSlot, Moves, HasNewZeros, AsksForBuffers, handed_over};
 
 use crate::job::{Finished, Job};
 use std::alloc::Global;
@@ -96,6 +98,8 @@ impl Slot {
         ensures step { IsStepOfSlot self.old self.new }
         ensures moves { Moves self.old call.now result hold.old hold.new }
         ensures fit { FitsSlot self.new hold.new }
+        ensures zeros { HasNewZeros self.old call.now result hold.new }
+        ensures asked { result ≡ Refused NoMem → AsksForBuffers call.now }
     {
         if is_close(call) {
             return self.close(hold);

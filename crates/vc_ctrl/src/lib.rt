@@ -9,6 +9,7 @@
 
 ghost use Rattle.std.specs.Prelude.{◌≡◌, ◌≤◌, ◌&&◌, nat_le, ok_or, unwrap_or};
 ghost use Rattle.vc_base.specs.declared.Errno.TheVariants.{Inval};
+ghost use Rattle.vc_base.specs.Limits.{most_gop, most_quantiser};
 ghost use Rattle.vc_defs.specs.Laws.{AreRates};
 ghost use Rattle.vc_defs.specs.Outputs.{default_rates};
 ghost use Rattle.vc_model.specs.Answer.{control_of, with_control};
@@ -65,7 +66,7 @@ impl Controls {
     pub fn gop(&self) -> u32
         ensures value { result ≡ self.now.gop }
         ensures least { 1 ≤ result }
-        ensures most { result ≤ 16 }
+        ensures most { result ≤ most_gop }
     {
         self.gop
     }
@@ -74,7 +75,7 @@ impl Controls {
     pub fn iqp(&self) -> u32
         ensures value { result ≡ self.now.iqp }
         ensures least { 1 ≤ result }
-        ensures most { result ≤ 31 }
+        ensures most { result ≤ most_quantiser }
     {
         self.iqp
     }
@@ -83,7 +84,7 @@ impl Controls {
     pub fn pqp(&self) -> u32
         ensures value { result ≡ self.now.pqp }
         ensures least { 1 ≤ result }
-        ensures most { result ≤ 31 }
+        ensures most { result ≤ most_quantiser }
     {
         self.pqp
     }

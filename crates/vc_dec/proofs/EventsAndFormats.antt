@@ -24,7 +24,7 @@ use Rattle.vc_context.specs.Contexts.{IsKept, Gives, IsStep}
 use Rattle.vc_dec.specs.declared.InJob.{InJob}
 use Rattle.vc_dec.specs.declared.Decoder.TheInside.{Inside}
 use Rattle.vc_dec.specs.Decoders.{decoder_state, IsDecoder, IsPlaced, IsPictureOf, IsOfStream, IsSupplied, geometry_after}
-use Rattle.vc_dec.specs.Serving.{Serves}
+use Rattle.vc_context.specs.Serving.{Serves}
 use Rattle.vc_dec.proofs.KeptThroughCalls.{settle_at, still_at, quiet_here, agree_here, place, begins_anew}
 use Rattle.vc_dec.proofs.FormatsHaveTheLayout.{set_sized}
 

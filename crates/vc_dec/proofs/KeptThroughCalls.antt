@@ -27,7 +27,7 @@ use Rattle.vc_work.proofs.Streams.{begins_in_step}
 use Rattle.vc_dec.specs.declared.InJob.{InJob}
 use Rattle.vc_m2m.specs.Settling.{end_raised, events_settled}
 use Rattle.vc_dec.specs.Decoders.{CodecParts, decoder_state, job_mark, IsDecoder, IsPlaced, IsOfStream, KnowsItsJob, IsDestOf, IsSupplied, AreServed, lent_room, AreBlank, IsBeforeMark}
-use Rattle.vc_dec.specs.Serving.{Serves}
+use Rattle.vc_context.specs.Serving.{Serves}
 use Rattle.vc_dec.proofs.ReachedStaysReached.{placed_answer, agrees, settled, sides, runs}
 use Rattle.vc_dec.proofs.QueuesThroughCalls.{IsBegun, Counts, Calls, stays}
 use Rattle.vc_dec.proofs.SettlingLeavesTheRest.{Settles, settles, stays_in_run, ended_raised}

@@ -7,6 +7,7 @@ use Rattle.vc_base.specs.declared.Side.TheVariants.{Out, Cap}
 use Rattle.vc_base.specs.Buffers.{Buffer, QueueState, buffer_count}
 use Rattle.vc_base.specs.Events.{EventState}
 use Rattle.vc_defs.specs.declared.Geometry.{Geometry}
+use Rattle.vc_defs.specs.Encoder.{default_rates}
 use Rattle.vc_defs.specs.Decoder.{ReferenceState, DecoderState, fresh_decoder, kept_bytes}
 use Rattle.vc_model.specs.Formats.{FormatPair}
 use Rattle.vc_model.specs.Coder.{CodecState, no_codec, decoder}
@@ -47,7 +48,7 @@ decoder_state formats geometry p events state job =
       kind = Dec;
       formats = formats;
       geometry = geometry;
-      rates = record { gop = 10; iqp = 20; pqp = 20 };
+      rates = default_rates;
       out = p.out;
       cap = p.cap;
       phase = p.phase;

@@ -1,5 +1,4 @@
 pub mod Decoders
 pub mod Ends
 pub mod Parts
-pub mod Serving
 pub mod Works

@@ -2,7 +2,7 @@
 use Rattle.std.specs.Prelude.{◌≡◌, ◌≤◌, ℕ, vec_len, length, Option, Some, None, []}
 use Rattle.vc_base.specs.declared.Format.{Format}
 use Rattle.vc_defs.specs.declared.Geometry.{Geometry}
-use Rattle.vc_defs.specs.Encoder.{RunRates}
+use Rattle.vc_defs.specs.Encoder.{default_rates}
 use Rattle.vc_defs.specs.Laws.{IsRawFormat}
 use Rattle.vc_model.specs.Context.{decode, probe}
 use Rattle.vc_model.specs.Coder.{decoder}
@@ -17,10 +17,6 @@ use Rattle.vc_work.specs.Runs.{HasArea}
 use Rattle.vc_context.specs.Works.{IsDest, IsAsLong}
 use Rattle.vc_dec.specs.Parts.{limit_of}
 
--- The rates of every run of a decoder, which has none to set.
-abbrev pub no_rates : RunRates
-no_rates = record { gop = 10; iqp = 20; pqp = 20 }
-
 -- What every job of a decoder has of these parts of it: the source, the state that is in the reference and in the assembly, the
 -- raw format, and the bound on the bodies of frames, for which the assembly is made.
 pub record IsPartOf (j : JobData) (source_lent : Lent) (reference : Option CodecReference) (assembly : Option AssemblyState) (raw : Format) (most : ℕ) : Type 0 where
@@ -29,7 +25,7 @@ pub record IsPartOf (j : JobData) (source_lent : Lent) (reference : Option Codec
   pub format : raw ≡ j.format
   pub limit : most ≡ j.limit
   pub bodies : limit_of assembly ≡ Some j.limit
-  pub rates : no_rates ≡ j.rates
+  pub rates : default_rates ≡ j.rates
 
 -- The buffer and the assembly are given: a probe of a decoder has these data.
 pub record IsProbeOf (j : JobData) (source_lent : Lent) (assembly : Option AssemblyState) (raw : Format) (most : ℕ) : Type 0 where

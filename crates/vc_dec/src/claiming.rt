@@ -1,15 +1,11 @@
 //! Claims: what a job takes along.
 
-ghost use Rattle.std.specs.Prelude.{◌≡◌, ◌≢◌, None, Some, true, false};
-ghost use Rattle.vc_model.specs.Core.{claimed_in};
-ghost use Rattle.vc_model.specs.Runs.{JobData, is_claimable, after_claim};
-ghost use Rattle.vc_model.specs.Standing.{without_job};
-ghost use Rattle.vc_queue.specs.Holds.{HoldState};
+ghost use Rattle.std.specs.Prelude.{◌≡◌, ◌≢◌, None, Some};
+ghost use Rattle.vc_model.specs.Runs.{JobData};
 ghost use Rattle.vc_work.specs.Runs.{Fits};
-ghost use Rattle.vc_context.specs.Contexts.{IsKept, IsStep};
-ghost use Rattle.vc_context.specs.Payloads.{FitsContext};
-ghost use Rattle.vc_context.specs.Works.{IsWork, IsWorkWith, RunsInWith};
+ghost use Rattle.vc_context.specs.Works.{IsWork};
 ghost use Rattle.vc_dec.specs.Works.{IsProbeOf, IsRunOver, CanProbe, CanDecode};
+ghost use Rattle.vc_context.specs.Serving.{CanClaim, IsClaimed};
 
 use crate::{Decoder, Dest, InJob};
 use vc_base::{Format, Side};
@@ -87,15 +83,8 @@ impl Decoder {
     /// Takes the front buffer of OUTPUT, and what the codec keeps, into a job: a probe while the geometry is
     /// unknown, and then a run, which takes the front buffer of CAPTURE too.
     pub fn claim(&mut self) -> Work
-        requires kept { IsKept self.old }
-        requires due { is_claimable (Some self.old) ≡ true }
-        ensures after { self.new ≡ without_job (after_claim self.old) }
-        ensures step { IsStep self.old self.new }
-        ensures work { IsWorkWith (claimed_in (Some self.old)) result }
-        ensures fits { Fits result }
-        ensures taken { is_claimable (Some self.new) ≡ false }
-        ensures runs { RunsInWith self.new (claimed_in (Some self.old)) }
-        ensures holds { (hold : HoldState) → FitsContext self.old hold → FitsContext self.new hold }
+        requires able { CanClaim self.old }
+        ensures claimed { IsClaimed self.old self.new result }
     {
         match self.geometry {
             None => self.claim_probe(),
@@ -105,16 +94,9 @@ impl Decoder {
 
     /// Takes the front buffer of OUTPUT and the assembly into a probe.
     fn claim_probe(&mut self) -> Work
-        requires kept { IsKept self.old }
-        requires due { is_claimable (Some self.old) ≡ true }
+        requires able { CanClaim self.old }
         requires unknown { self.old.geometry ≡ None }
-        ensures after { self.new ≡ without_job (after_claim self.old) }
-        ensures step { IsStep self.old self.new }
-        ensures work { IsWorkWith (claimed_in (Some self.old)) result }
-        ensures fits { Fits result }
-        ensures taken { is_claimable (Some self.new) ≡ false }
-        ensures runs { RunsInWith self.new (claimed_in (Some self.old)) }
-        ensures holds { (hold : HoldState) → FitsContext self.old hold → FitsContext self.new hold }
+        ensures claimed { IsClaimed self.old self.new result }
     {
         let source = self.m2m.pair.lend(Side::Out);
         self.job = Some(InJob {
@@ -132,16 +114,9 @@ impl Decoder {
 
     /// Takes the front buffers of both queues, the assembly and a reference into a decode run.
     fn claim_run(&mut self) -> Work
-        requires kept { IsKept self.old }
-        requires due { is_claimable (Some self.old) ≡ true }
+        requires able { CanClaim self.old }
         requires known { self.old.geometry ≢ None }
-        ensures after { self.new ≡ without_job (after_claim self.old) }
-        ensures step { IsStep self.old self.new }
-        ensures work { IsWorkWith (claimed_in (Some self.old)) result }
-        ensures fits { Fits result }
-        ensures taken { is_claimable (Some self.new) ≡ false }
-        ensures runs { RunsInWith self.new (claimed_in (Some self.old)) }
-        ensures holds { (hold : HoldState) → FitsContext self.old hold → FitsContext self.new hold }
+        ensures claimed { IsClaimed self.old self.new result }
     {
         let source = self.m2m.pair.lend(Side::Out);
         let dest = self.m2m.pair.lend(Side::Cap);

@@ -1,6 +1,6 @@
 //! What the codec keeps from run to run.
 
-ghost use Rattle.std.specs.Prelude.{◌≡◌, ◌==◌, IfOk, is_ok, if◌then◌else◌};
+ghost use Rattle.std.specs.Prelude.{◌≡◌, ◌==◌, IfOk, OnErr, IsTrue, is_ok, is_some, if◌then◌else◌};
 ghost use Rattle.std.specs.List.{list_any};
 ghost use Rattle.vc_defs.specs.Decoder.{fresh_decoder};
 ghost use Rattle.vc_defs.specs.Finds.{nothing_kept};
@@ -42,7 +42,8 @@ pub(crate) fn new_assembly(
     needed: bool,
     limit: u32,
 ) -> Result<Option<Assembly>, NoMemory>
-    ensures { IfOk result (λ a. a ≡ new_assembly needed limit) }
+    ensures made { IfOk result (λ a. a ≡ new_assembly needed limit) }
+    ensures asked { OnErr result (IsTrue needed) }
 {
     if !needed {
         return Ok(None);
@@ -57,7 +58,8 @@ pub(crate) fn new_reference(
     needed: bool,
     length: u32,
 ) -> Result<Option<Reference>, NoMemory>
-    ensures { IfOk result (λ r. r ≡ new_reference needed length) }
+    ensures made { IfOk result (λ r. r ≡ new_reference needed length) }
+    ensures asked { OnErr result (IsTrue needed) }
 {
     if !needed {
         return Ok(None);
@@ -155,7 +157,8 @@ impl Codec {
     /// # Errors
     /// `NoMemory` where no memory is found. All is then as it was.
     pub(crate) fn add(&mut self, reference: Option<Reference>) -> Result<(), NoMemory>
-        ensures { self.new ≡ (if is_ok result then record self.old { rooms = rooms_with reference self.old.rooms } else self.old) }
+        ensures after { self.new ≡ (if is_ok result then record self.old { rooms = rooms_with reference self.old.rooms } else self.old) }
+        ensures asked { OnErr result (IsTrue (is_some reference)) }
     {
         let Some(reference) = reference else {
             return Ok(());

@@ -6,18 +6,15 @@ ghost use Rattle.vc_base.specs.Limits.{error_flag, source_change_event};
 ghost use Rattle.vc_base.specs.Events.{raise_after};
 ghost use Rattle.vc_defs.specs.Decoder.{fresh_decoder};
 ghost use Rattle.vc_model.specs.Context.{run};
-ghost use Rattle.vc_model.specs.Core.{BroughtBack, finished_context};
 ghost use Rattle.vc_model.specs.Runs.{type_flag};
 ghost use Rattle.vc_geom.specs.Pairs.{pair_of, CanStand};
 ghost use Rattle.vc_base.specs.declared.Kind.TheVariants.{Dec};
 ghost use Rattle.vc_queue.specs.Holds.{HoldState};
 ghost use Rattle.vc_queue.specs.Lending.{IsBack};
 ghost use Rattle.vc_pair.specs.Pairs.{cap_retired, is_final, IsIdle, FitsBoth, pair_settled, pair_changed};
-ghost use Rattle.vc_context.specs.Contexts.{HasRoom, IsKept, IsStep};
-ghost use Rattle.vc_context.specs.Payloads.{FitsContext};
-ghost use Rattle.vc_context.specs.Works.{RunsIn, IsBack as IsWorkBack, IsBackOf};
 ghost use Rattle.vc_m2m.specs.Settling.{end_raised};
 ghost use Rattle.vc_dec.specs.Ends.{end_of, source_put, dest_put, IsDestBack, dest_ended, events_ended, IsLentDest, formats_behind, IsLegalChange};
+ghost use Rattle.vc_context.specs.Serving.{CanFinish, IsFinished};
 
 use crate::codec::Codec;
 use crate::{Decoder, Dest};
@@ -258,12 +255,8 @@ impl Decoder {
     /// an event tells it; after a fault both buffers come back with ERROR, and the codec begins anew. A source that
     /// is not used up is given back with its cursor.
     pub fn finish(&mut self, work: Work, outcome: Result<Outcome, EngineFault>)
-        requires kept { IsKept self.old }
-        requires room { HasRoom self.old }
-        requires back { IsBackOf self.old work outcome }
-        ensures after { (back : BroughtBack) → RunsIn self.old back.job → IsWorkBack back work outcome → self.new ≡ finished_context self.old back }
-        ensures holds { (hold : HoldState) → FitsContext self.old hold → FitsContext self.new hold }
-        ensures step { IsStep self.old self.new }
+        requires able { CanFinish self.old work outcome }
+        ensures finished { IsFinished self.old self.new work outcome }
     {
         let Some(job) = self.job.take() else {
             unreachable!()

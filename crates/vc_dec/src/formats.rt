@@ -4,7 +4,7 @@ ghost use Rattle.std.specs.Prelude.{◌≡◌};
 ghost use Rattle.vc_model.specs.Answer.{set_answer};
 ghost use Rattle.vc_context.specs.Contexts.{IsKept};
 ghost use Rattle.vc_dec.specs.Decoders.{geometry_after};
-ghost use Rattle.vc_dec.specs.Serving.{Serves};
+ghost use Rattle.vc_context.specs.Serving.{Serves};
 
 use crate::Decoder;
 use vc_base::{Errno, Format, Kind, Reply, Side};

@@ -4,9 +4,9 @@ ghost use Rattle.std.specs.Prelude.{◌≡◌, ◌++◌, ◌==◌, ◌&&◌, not
 ghost use Rattle.vc_base.specs.declared.Side.TheVariants.{Out, Cap};
 ghost use Rattle.vc_base.specs.declared.Call.TheVariants.{ReqBufs, CreateBufs};
 ghost use Rattle.vc_model.specs.Answer.{reqbufs_answer, create_answer};
-ghost use Rattle.vc_context.specs.Contexts.{HasRoom, IsKept, IsStep, GivesWithMemory};
-ghost use Rattle.vc_context.specs.Payloads.{FitsContext, Moves};
+ghost use Rattle.vc_context.specs.Contexts.{GivesWithMemory};
 ghost use Rattle.vc_dec.specs.Decoders.{lent_room, serves};
+ghost use Rattle.vc_context.specs.Serving.{CanServe, CarriesOut};
 
 use crate::codec::{Codec, new_assembly, new_reference};
 use crate::{Decoder, InJob};
@@ -68,13 +68,9 @@ impl Decoder {
         count: u32,
         hold: &mut Hold,
     ) -> Reply
-        requires kept { IsKept self.old }
-        requires fits { FitsContext self.old hold.old }
-        requires room { HasRoom self.old }
+        requires able { CanServe self.old hold.old }
         ensures answers { GivesWithMemory (reqbufs_answer self.old side count) result self.new }
-        ensures step { IsStep self.old self.new }
-        ensures moves { Moves (Some self.old) (ReqBufs side count) result hold.old hold.new }
-        ensures fit { FitsContext self.new hold.new }
+        ensures carried { CarriesOut (ReqBufs side count) result self.old self.new hold.old hold.new }
     {
         match side {
             Side::Out => self.request_sources(alloc, count, hold),
@@ -84,13 +80,9 @@ impl Decoder {
 
     /// Makes new OUTPUT buffers. The codec begins anew, and the geometry is to be found again.
     fn request_sources(&mut self, alloc: Global, count: u32, hold: &mut Hold) -> Reply
-        requires kept { IsKept self.old }
-        requires fits { FitsContext self.old hold.old }
-        requires room { HasRoom self.old }
+        requires able { CanServe self.old hold.old }
         ensures answers { GivesWithMemory (reqbufs_answer self.old Out count) result self.new }
-        ensures step { IsStep self.old self.new }
-        ensures moves { Moves (Some self.old) (ReqBufs Out count) result hold.old hold.new }
-        ensures fit { FitsContext self.new hold.new }
+        ensures carried { CarriesOut (ReqBufs Out count) result self.old self.new hold.old hold.new }
     {
         if let Some(reply) = reqbufs_refusal(self.m2m.pair.queue(Side::Out)) {
             return reply;
@@ -111,13 +103,9 @@ impl Decoder {
     /// Makes new CAPTURE buffers, and a reference for them, which takes over the picture that later frames
     /// refer to.
     fn request_dests(&mut self, alloc: Global, count: u32, hold: &mut Hold) -> Reply
-        requires kept { IsKept self.old }
-        requires fits { FitsContext self.old hold.old }
-        requires room { HasRoom self.old }
+        requires able { CanServe self.old hold.old }
         ensures answers { GivesWithMemory (reqbufs_answer self.old Cap count) result self.new }
-        ensures step { IsStep self.old self.new }
-        ensures moves { Moves (Some self.old) (ReqBufs Cap count) result hold.old hold.new }
-        ensures fit { FitsContext self.new hold.new }
+        ensures carried { CarriesOut (ReqBufs Cap count) result self.old self.new hold.old hold.new }
     {
         if let Some(reply) = reqbufs_refusal(self.m2m.pair.queue(Side::Cap)) {
             return reply;
@@ -143,13 +131,9 @@ impl Decoder {
         length: u32,
         hold: &mut Hold,
     ) -> Reply
-        requires kept { IsKept self.old }
-        requires fits { FitsContext self.old hold.old }
-        requires room { HasRoom self.old }
+        requires able { CanServe self.old hold.old }
         ensures answers { GivesWithMemory (create_answer self.old side count length) result self.new }
-        ensures step { IsStep self.old self.new }
-        ensures moves { Moves (Some self.old) (CreateBufs side count length) result hold.old hold.new }
-        ensures fit { FitsContext self.new hold.new }
+        ensures carried { CarriesOut (CreateBufs side count length) result self.old self.new hold.old hold.new }
     {
         match side {
             Side::Out => self.create_sources(alloc, count, length, hold),
@@ -159,13 +143,9 @@ impl Decoder {
 
     /// Adds OUTPUT buffers. The first ones bring the assembly with them.
     fn create_sources(&mut self, alloc: Global, count: u32, length: u32, hold: &mut Hold) -> Reply
-        requires kept { IsKept self.old }
-        requires fits { FitsContext self.old hold.old }
-        requires room { HasRoom self.old }
+        requires able { CanServe self.old hold.old }
         ensures answers { GivesWithMemory (create_answer self.old Out count length) result self.new }
-        ensures step { IsStep self.old self.new }
-        ensures moves { Moves (Some self.old) (CreateBufs Out count length) result hold.old hold.new }
-        ensures fit { FitsContext self.new hold.new }
+        ensures carried { CarriesOut (CreateBufs Out count length) result self.old self.new hold.old hold.new }
     {
         if let Some(reply) = create_refusal(self.m2m.pair.queue(Side::Out), count, length) {
             return reply;
@@ -184,13 +164,9 @@ impl Decoder {
 
     /// Adds CAPTURE buffers, and a reference for them where there is none of the length yet.
     fn create_dests(&mut self, alloc: Global, count: u32, length: u32, hold: &mut Hold) -> Reply
-        requires kept { IsKept self.old }
-        requires fits { FitsContext self.old hold.old }
-        requires room { HasRoom self.old }
+        requires able { CanServe self.old hold.old }
         ensures answers { GivesWithMemory (create_answer self.old Cap count length) result self.new }
-        ensures step { IsStep self.old self.new }
-        ensures moves { Moves (Some self.old) (CreateBufs Cap count length) result hold.old hold.new }
-        ensures fit { FitsContext self.new hold.new }
+        ensures carried { CarriesOut (CreateBufs Cap count length) result self.old self.new hold.old hold.new }
     {
         if let Some(reply) = create_refusal(self.m2m.pair.queue(Side::Cap), count, length) {
             return reply;

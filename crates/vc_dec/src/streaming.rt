@@ -1,11 +1,11 @@
 //! The end of streaming: VIDIOC_STREAMOFF.
 
-ghost use Rattle.std.specs.Prelude.{◌≡◌, Some};
+ghost use Rattle.std.specs.Prelude.{◌≡◌};
 ghost use Rattle.vc_base.specs.declared.Call.TheVariants.{StreamOff};
 ghost use Rattle.vc_model.specs.Answer.{streamoff_answer};
-ghost use Rattle.vc_context.specs.Contexts.{HasRoom, IsKept, IsStep, Gives};
-ghost use Rattle.vc_context.specs.Payloads.{FitsContext, Moves};
+ghost use Rattle.vc_context.specs.Contexts.{Gives};
 ghost use Rattle.vc_dec.specs.Decoders.{sought_anew};
+ghost use Rattle.vc_context.specs.Serving.{CanServe, CarriesOut};
 
 use crate::Decoder;
 use crate::codec::Codec;
@@ -26,13 +26,9 @@ impl Decoder {
     /// Ends streaming of a queue, unless a job runs: its ready and done buffers go back to the user. On
     /// OUTPUT this is the seek.
     pub(crate) fn streamoff(&mut self, side: Side, hold: &mut Hold) -> Reply
-        requires kept { IsKept self.old }
-        requires fits { FitsContext self.old hold.old }
-        requires room { HasRoom self.old }
+        requires able { CanServe self.old hold.old }
         ensures answers { Gives (streamoff_answer self.old side) result self.new }
-        ensures step { IsStep self.old self.new }
-        ensures moves { Moves (Some self.old) (StreamOff side) result hold.old hold.new }
-        ensures fit { FitsContext self.new hold.new }
+        ensures carried { CarriesOut (StreamOff side) result self.old self.new hold.old hold.new }
     {
         if self.job.is_some() {
             return Reply::Blocked;

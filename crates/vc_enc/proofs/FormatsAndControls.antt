@@ -29,7 +29,7 @@ use Rattle.vc_context.specs.Contexts.{Gives, IsKept, IsStep, told_of}
 use Rattle.vc_context.specs.Payloads.{FitsContext}
 use Rattle.vc_enc.specs.declared.InJob.{InJob}
 use Rattle.vc_enc.specs.Encoders.{encoder_state, AreWhole, IsEncoder, IsSupplied, KnowsItsJob}
-use Rattle.vc_enc.specs.Serving.{Serves}
+use Rattle.vc_context.specs.Serving.{Serves}
 use Rattle.vc_enc.proofs.KeptThroughCalls.{all_stays, agree_at, nothing_yet}
 use Rattle.vc_enc.proofs.AnswersAfterSettling.{settled_is, settled_same}
 

@@ -1,3 +1,2 @@
 pub mod Encoders
-pub mod Serving
 pub mod Works

@@ -1,7 +1,7 @@
 -- The work of an encoder's job (docs/DEVICE.md, "Runs"; "Encoding" of the stateful encoder).
 use Rattle.std.specs.Prelude.{◌≡◌, ◌≤◌, ◌+◌, vec_len, length, true, false, if◌then◌else◌, Option, Some, None, Result, Ok}
 use Rattle.vc_base.specs.declared.Format.{Format}
-use Rattle.vc_base.specs.Limits.{keyframe_flag, pframe_flag, error_flag}
+use Rattle.vc_base.specs.Limits.{keyframe_flag, pframe_flag, error_flag, header_size}
 use Rattle.vc_defs.specs.Bodies.{padded_sum}
 use Rattle.vc_defs.specs.Laws.{IsRawFormat, AreRates}
 use Rattle.vc_model.specs.Context.{encode}
@@ -35,7 +35,7 @@ pub record IsGiven (j : JobData) (source_lent dest_lent : Lent) (reference : Opt
 pub record CanEncode (source_lent dest_lent : Lent) (reference : Option CodecReference) (format : Format) (rates : Rates) : Type 0 where
   pub filled : source_lent.used ≤ vec_len source_lent.payload
   pub whole : source_lent.used ≡ format.size
-  pub room : 44 + padded_sum (geometry_of format) ≤ length dest_lent.payload.items
+  pub room : header_size + padded_sum (geometry_of format) ≤ length dest_lent.payload.items
   pub picture : HasReference format reference
   pub raw : IsRawFormat format
   pub range : AreRates (run_rates rates)

@@ -1,13 +1,13 @@
 //! Buffers that are made: VIDIOC_REQBUFS and VIDIOC_CREATE_BUFS. All memory that later runs need is taken here.
 
-ghost use Rattle.std.specs.Prelude.{◌≡◌, Some, None, Option, IfOk};
+ghost use Rattle.std.specs.Prelude.{◌≡◌, Some, None, Option, IfOk, OnErr, ◌<◌};
 ghost use Rattle.vc_base.specs.declared.Side.TheVariants.{Out, Cap};
 ghost use Rattle.vc_base.specs.declared.Call.TheVariants.{ReqBufs, CreateBufs};
 ghost use Rattle.vc_base.specs.Buffers.{buffer_count};
 ghost use Rattle.vc_model.specs.Answer.{reqbufs_answer, create_answer};
-ghost use Rattle.vc_context.specs.Contexts.{HasRoom, IsKept, IsStep, GivesWithMemory};
-ghost use Rattle.vc_context.specs.Payloads.{FitsContext, Moves};
+ghost use Rattle.vc_context.specs.Contexts.{GivesWithMemory};
 ghost use Rattle.vc_enc.specs.Encoders.{new_reference, HasSources};
+ghost use Rattle.vc_context.specs.Serving.{CanServe, CarriesOut};
 
 use crate::Encoder;
 use std::alloc::Global;
@@ -20,7 +20,8 @@ use vc_work::Reference;
 
 /// The reference that so many new OUTPUT buffers need, for pictures of that size.
 fn new_reference(alloc: Global, count: u32, size: u32) -> Result<Option<Reference>, NoMemory>
-    ensures { IfOk result (λ r. r ≡ new_reference count size) }
+    ensures made { IfOk result (λ r. r ≡ new_reference count size) }
+    ensures asked { OnErr result (0 < count) }
 {
     if count == 0 {
         return Ok(None);
@@ -38,13 +39,9 @@ impl Encoder {
         count: u32,
         hold: &mut Hold,
     ) -> Reply
-        requires kept { IsKept self.old }
-        requires fits { FitsContext self.old hold.old }
-        requires room { HasRoom self.old }
+        requires able { CanServe self.old hold.old }
         ensures answers { GivesWithMemory (reqbufs_answer self.old side count) result self.new }
-        ensures step { IsStep self.old self.new }
-        ensures moves { Moves (Some self.old) (ReqBufs side count) result hold.old hold.new }
-        ensures fit { FitsContext self.new hold.new }
+        ensures carried { CarriesOut (ReqBufs side count) result self.old self.new hold.old hold.new }
     {
         match side {
             Side::Out => self.request_sources(alloc, count, hold),
@@ -54,13 +51,9 @@ impl Encoder {
 
     /// Makes new OUTPUT buffers. The codec begins anew, and has a reference where there are buffers.
     fn request_sources(&mut self, alloc: Global, count: u32, hold: &mut Hold) -> Reply
-        requires kept { IsKept self.old }
-        requires fits { FitsContext self.old hold.old }
-        requires room { HasRoom self.old }
+        requires able { CanServe self.old hold.old }
         ensures answers { GivesWithMemory (reqbufs_answer self.old Out count) result self.new }
-        ensures step { IsStep self.old self.new }
-        ensures moves { Moves (Some self.old) (ReqBufs Out count) result hold.old hold.new }
-        ensures fit { FitsContext self.new hold.new }
+        ensures carried { CarriesOut (ReqBufs Out count) result self.old self.new hold.old hold.new }
     {
         if self.m2m.pair.queue(Side::Out).is_streaming() {
             return refused(Errno::Busy);
@@ -81,13 +74,9 @@ impl Encoder {
 
     /// Makes new CAPTURE buffers.
     fn request_dests(&mut self, alloc: Global, count: u32, hold: &mut Hold) -> Reply
-        requires kept { IsKept self.old }
-        requires fits { FitsContext self.old hold.old }
-        requires room { HasRoom self.old }
+        requires able { CanServe self.old hold.old }
         ensures answers { GivesWithMemory (reqbufs_answer self.old Cap count) result self.new }
-        ensures step { IsStep self.old self.new }
-        ensures moves { Moves (Some self.old) (ReqBufs Cap count) result hold.old hold.new }
-        ensures fit { FitsContext self.new hold.new }
+        ensures carried { CarriesOut (ReqBufs Cap count) result self.old self.new hold.old hold.new }
     {
         let size = self.m2m.formats.cap.size;
         let answer = self.m2m.pair.reqbufs(alloc, Side::Cap, count, size, hold);
@@ -104,13 +93,9 @@ impl Encoder {
         length: u32,
         hold: &mut Hold,
     ) -> Reply
-        requires kept { IsKept self.old }
-        requires fits { FitsContext self.old hold.old }
-        requires room { HasRoom self.old }
+        requires able { CanServe self.old hold.old }
         ensures answers { GivesWithMemory (create_answer self.old side count length) result self.new }
-        ensures step { IsStep self.old self.new }
-        ensures moves { Moves (Some self.old) (CreateBufs side count length) result hold.old hold.new }
-        ensures fit { FitsContext self.new hold.new }
+        ensures carried { CarriesOut (CreateBufs side count length) result self.old self.new hold.old hold.new }
     {
         match side {
             Side::Out if self.m2m.pair.queue(Side::Out).buffers() == 0 => {
@@ -123,13 +108,9 @@ impl Encoder {
     /// Adds the first OUTPUT buffers, for which the codec needs a reference.
     fn create_first(&mut self, alloc: Global, count: u32, length: u32, hold: &mut Hold) -> Reply
         requires none { buffer_count self.old.out ≡ 0 }
-        requires kept { IsKept self.old }
-        requires fits { FitsContext self.old hold.old }
-        requires room { HasRoom self.old }
+        requires able { CanServe self.old hold.old }
         ensures answers { GivesWithMemory (create_answer self.old Out count length) result self.new }
-        ensures step { IsStep self.old self.new }
-        ensures moves { Moves (Some self.old) (CreateBufs Out count length) result hold.old hold.new }
-        ensures fit { FitsContext self.new hold.new }
+        ensures carried { CarriesOut (CreateBufs Out count length) result self.old self.new hold.old hold.new }
     {
         if let Some(reply) = create_refusal(self.m2m.pair.queue(Side::Out), count, length) {
             return reply;
@@ -160,13 +141,9 @@ impl Encoder {
         hold: &mut Hold,
     ) -> Reply
         requires more { HasSources side self.old }
-        requires kept { IsKept self.old }
-        requires fits { FitsContext self.old hold.old }
-        requires room { HasRoom self.old }
+        requires able { CanServe self.old hold.old }
         ensures answers { GivesWithMemory (create_answer self.old side count length) result self.new }
-        ensures step { IsStep self.old self.new }
-        ensures moves { Moves (Some self.old) (CreateBufs side count length) result hold.old hold.new }
-        ensures fit { FitsContext self.new hold.new }
+        ensures carried { CarriesOut (CreateBufs side count length) result self.old self.new hold.old hold.new }
     {
         let answer = self.m2m.pair.create(alloc, side, count, length, hold);
         settle(&mut self.m2m.pair, &mut self.m2m.events);

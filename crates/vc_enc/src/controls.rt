@@ -2,7 +2,7 @@
 
 ghost use Rattle.vc_model.specs.Answer.{value_answer, control_of, control_answer, with_control};
 ghost use Rattle.vc_context.specs.Contexts.{Gives, IsKept};
-ghost use Rattle.vc_enc.specs.Serving.{Serves};
+ghost use Rattle.vc_context.specs.Serving.{Serves};
 
 use crate::Encoder;
 use vc_base::{Kind, Reply};

@@ -2,7 +2,7 @@
 
 ghost use Rattle.vc_model.specs.Answer.{set_answer};
 ghost use Rattle.vc_context.specs.Contexts.{IsKept};
-ghost use Rattle.vc_enc.specs.Serving.{Serves};
+ghost use Rattle.vc_context.specs.Serving.{Serves};
 
 use crate::Encoder;
 use vc_base::{Errno, Format, Kind, Reply, Side};

@@ -3,15 +3,11 @@
 ghost use Rattle.std.specs.Prelude.{◌≡◌, ◌&&◌, not, Some, is_some, true, false};
 ghost use Rattle.vc_defs.specs.Laws.{AreRates};
 ghost use Rattle.vc_model.specs.Context.{is_run};
-ghost use Rattle.vc_model.specs.Core.{BroughtBack, finished_context, claimed_in};
-ghost use Rattle.vc_model.specs.Runs.{JobData, is_claimable, after_claim};
-ghost use Rattle.vc_model.specs.Standing.{without_job};
-ghost use Rattle.vc_queue.specs.Holds.{HoldState};
+ghost use Rattle.vc_model.specs.Runs.{JobData, is_claimable};
 ghost use Rattle.vc_work.specs.Runs.{Fits, run_rates};
-ghost use Rattle.vc_context.specs.Contexts.{HasRoom, IsKept, IsStep};
-ghost use Rattle.vc_context.specs.Payloads.{FitsContext};
-ghost use Rattle.vc_context.specs.Works.{IsWork, IsWorkWith, RunsIn, RunsInWith, IsBack, IsBackOf};
+ghost use Rattle.vc_context.specs.Works.{IsWork};
 ghost use Rattle.vc_enc.specs.Works.{IsGiven, CanEncode, end_of};
+ghost use Rattle.vc_context.specs.Serving.{CanClaim, CanFinish, IsClaimed, IsFinished};
 
 use crate::streaming::begin_anew_where;
 use crate::{Encoder, InJob};
@@ -137,15 +133,8 @@ impl Encoder {
 
     /// Takes the front buffers of both queues, and what the codec keeps, into a job.
     pub fn claim(&mut self) -> Work
-        requires kept { IsKept self.old }
-        requires due { is_claimable (Some self.old) ≡ true }
-        ensures after { self.new ≡ without_job (after_claim self.old) }
-        ensures step { IsStep self.old self.new }
-        ensures work { IsWorkWith (claimed_in (Some self.old)) result }
-        ensures fits { Fits result }
-        ensures taken { is_claimable (Some self.new) ≡ false }
-        ensures runs { RunsInWith self.new (claimed_in (Some self.old)) }
-        ensures holds { (hold : HoldState) → FitsContext self.old hold → FitsContext self.new hold }
+        requires able { CanClaim self.old }
+        ensures claimed { IsClaimed self.old self.new result }
     {
         let source = self.m2m.pair.lend(Side::Out);
         let dest = self.m2m.pair.lend(Side::Cap);
@@ -161,12 +150,8 @@ impl Encoder {
     /// Takes the work of the running job back. Its buffers go to done, and the codec goes on from the frame,
     /// or after a fault begins anew. The frame that ends a drain has LAST, and its end is told by an event.
     pub fn finish(&mut self, work: Work, outcome: Result<Outcome, EngineFault>)
-        requires kept { IsKept self.old }
-        requires room { HasRoom self.old }
-        requires back { IsBackOf self.old work outcome }
-        ensures after { (back : BroughtBack) → RunsIn self.old back.job → IsBack back work outcome → self.new ≡ finished_context self.old back }
-        ensures holds { (hold : HoldState) → FitsContext self.old hold → FitsContext self.new hold }
-        ensures step { IsStep self.old self.new }
+        requires able { CanFinish self.old work outcome }
+        ensures finished { IsFinished self.old self.new work outcome }
     {
         let Some(job) = self.job.take() else {
             unreachable!()

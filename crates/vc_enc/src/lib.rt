@@ -8,13 +8,14 @@
 //! all that later runs need before they change anything. What a run itself does is proved where engines are.
 #![tactic(auto)]
 
-ghost use Rattle.std.specs.Prelude.{◌≡◌, ℕ, false, IfOk, Some, [], is_some};
+ghost use Rattle.std.specs.Prelude.{◌≡◌, false, IfOk, []};
 ghost use Rattle.vc_base.specs.declared.Kind.TheVariants.{Enc};
 ghost use Rattle.vc_model.specs.Context.{fresh_context};
 ghost use Rattle.vc_model.specs.Answer.{context_answer};
 ghost use Rattle.vc_model.specs.Core.{unless_memory};
-ghost use Rattle.vc_context.specs.Contexts.{HasRoom, GivesWithMemory, IsKept, IsStep, TakesMemory, is_close};
-ghost use Rattle.vc_context.specs.Payloads.{FitsContext, Moves, handed_over};
+ghost use Rattle.vc_context.specs.Contexts.{GivesWithMemory, TakesMemory, is_close};
+ghost use Rattle.vc_context.specs.Payloads.{handed_over};
+ghost use Rattle.vc_context.specs.Serving.{CanServe, CarriesOut};
 
 mod buffers;
 mod controls;
@@ -80,13 +81,9 @@ impl Encoder {
     /// Answers a call other than Close. Open is refused, since the context is open.
     pub fn answer(&mut self, alloc: Global, call: &Call, hold: &mut Hold) -> Reply
         requires other { is_close call.now ≡ false }
-        requires kept { IsKept self.old }
-        requires fits { FitsContext self.old hold.old }
-        requires room { HasRoom self.old }
+        requires able { CanServe self.old hold.old }
         ensures answers { GivesWithMemory (context_answer self.old call.now (handed_over call.now hold.old)) result self.new }
-        ensures step { IsStep self.old self.new }
-        ensures moves { Moves (Some self.old) call.now result hold.old hold.new }
-        ensures fit { FitsContext self.new hold.new }
+        ensures carried { CarriesOut call.now result self.old self.new hold.old hold.new }
     {
         match *call {
             Call::SetFmt { side, want } => self.set_format(side, &want),

@@ -3,9 +3,9 @@
 ghost use Rattle.std.specs.Prelude.{◌≡◌, Some};
 ghost use Rattle.vc_base.specs.declared.Call.TheVariants.{StreamOff};
 ghost use Rattle.vc_model.specs.Answer.{streamoff_answer};
-ghost use Rattle.vc_context.specs.Contexts.{HasRoom, IsKept, IsStep, Gives};
-ghost use Rattle.vc_context.specs.Payloads.{FitsContext, Moves};
+ghost use Rattle.vc_context.specs.Contexts.{Gives};
 ghost use Rattle.vc_enc.specs.Encoders.{ends_capture, anew_where};
+ghost use Rattle.vc_context.specs.Serving.{CanServe, CarriesOut};
 
 use crate::Encoder;
 use vc_base::{Reply, Side};
@@ -40,18 +40,14 @@ impl Encoder {
     /// Ends streaming of a queue, unless a job runs: its ready and done buffers go back to the user. Where
     /// CAPTURE streamed the codec begins anew.
     pub(crate) fn streamoff(&mut self, side: Side, hold: &mut Hold) -> Reply
-        requires kept { IsKept self.old }
-        requires fits { FitsContext self.old hold.old }
-        requires room { HasRoom self.old }
+        requires able { CanServe self.old hold.old }
         ensures answers { Gives (streamoff_answer self.old side) result self.new }
-        ensures step { IsStep self.old self.new }
-        ensures moves { Moves (Some self.old) (StreamOff side) result hold.old hold.new }
-        ensures fit { FitsContext self.new hold.new }
+        ensures carried { CarriesOut (StreamOff side) result self.old self.new hold.old hold.new }
     {
+        let due = ends_capture(&self.m2m.pair, side);
         if self.job.is_some() {
             return Reply::Blocked;
         }
-        let due = ends_capture(&self.m2m.pair, side);
         self.m2m.pair.streamoff(side, hold);
         begin_anew_where(due, &mut self.reference);
         settle(&mut self.m2m.pair, &mut self.m2m.events);

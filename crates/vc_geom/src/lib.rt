@@ -13,27 +13,11 @@ ghost use Rattle.vc_defs.specs.Raw.{grey, yu12, nv12, yuyv, same_fourcc, layout_
 ghost use Rattle.vc_model.specs.Formats.{FormatPair, listed_or, raw_format, coded_format, frame_room, padded_samples, width_for, height_for, size_or, encoder_formats, decoder_formats, formats_at_open, formats_listed, formats_for, formats_found};
 ghost use Rattle.vc_geom.specs.Pairs.{pair_of, copied, is_raw, size_if_raw, IsSize, CanStand};
 
+pub use vc_base::fourccs::YU12;
+use vc_base::fourccs::{DATA, FWHT, GREY, NV12, YUYV};
 use vc_base::limits::{LEAST_CODED_SIZE, LONGEST_BUFFER, MOST_BYTES, USUAL_SIZE};
 use vc_base::{Format, Fourcc, Kind, Side};
 use vc_defs::{Geometry, Layout};
-
-/// Pictures of one sample a place, without colour: V4L2_PIX_FMT_GREY.
-pub const GREY: Fourcc = Fourcc(*b"GREY");
-
-/// Planes Y, U and V one behind the other, chroma at half width and half height: V4L2_PIX_FMT_YUV420.
-pub const YU12: Fourcc = Fourcc(*b"YU12");
-
-/// Plane Y and then U and V in turns, chroma at half width and half height: V4L2_PIX_FMT_NV12.
-pub const NV12: Fourcc = Fourcc(*b"NV12");
-
-/// Y, U, Y and V in turns, chroma at half width: V4L2_PIX_FMT_YUYV.
-pub const YUYV: Fourcc = Fourcc(*b"YUYV");
-
-/// The coded format of docs/FORMAT.md.
-pub const FWHT: Fourcc = Fourcc(*b"FWHT");
-
-/// The bytes of a copying context.
-pub const DATA: Fourcc = Fourcc(*b"DATA");
 
 /// The formats of the two sides of a context.
 #[derive(Clone, Copy, Debug, PartialEq, Eq)]

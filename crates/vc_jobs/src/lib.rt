@@ -114,6 +114,7 @@ impl JobList {
         ensures removed { self.new ≡ with_waiting self.old (without self.old.waiting slot) }
         ensures sound { AreSlots self.new }
     {
+        // That a waiting slot is one of the list's is known of its parts alone, so the proof looks at them.
         let _ = &self.slots;
         let before = self.prev[slot as usize];
         let after = self.next[slot as usize];

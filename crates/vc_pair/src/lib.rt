@@ -5,15 +5,16 @@
 //! the Linux userspace API documentation, as far as docs/DEVICE.md does not say otherwise.
 #![tactic(auto)]
 
-ghost use Rattle.std.specs.Prelude.{◌≡◌, ◌≢◌, ◌<◌, ◌^◌, not, ◌&&◌, ◌||◌, ℕ, None, Some, List, [], ◌∷◌, take, bit_or, is_some, false, IsTrue, min, OnErr, ◌++◌};
+ghost use Rattle.std.specs.Prelude.{◌≡◌, ◌≢◌, ◌<◌, ◌^◌, not, ◌&&◌, ◌||◌, ℕ, None, Some, List, [], ◌∷◌, take, bit_or, is_some, false, IsTrue, min, Err, OnErr, OnOk, ◌++◌};
 ghost use Rattle.vc_base.specs.declared.Side.TheVariants.{Out, Cap};
+ghost use Rattle.vc_base.specs.declared.Errno.TheVariants.{NoMem};
 ghost use Rattle.vc_base.specs.Buffers.{without_job_bytes, lend_after, give_back_after, retire_after, streamon_refusal, streamon_after, is_empty, buffer_count, qbuf_refusal, qbuf_after, dqbuf_refusal, reqbufs_refusal, reqbufs_after, create_refusal, created, create_after};
 ghost use Rattle.vc_base.specs.Limits.{most_buffers};
 ghost use Rattle.vc_model.specs.Context.{run, owe, last, stopped, is_run, is_stopped, is_drained, PhaseState};
 ghost use Rattle.vc_model.specs.Answer.{start_is_early, without_drain_stop, mark_after_restart};
 ghost use Rattle.vc_model.specs.Phases.{is_owed, is_stopped_by_drain};
 ghost use Rattle.vc_queue.specs.Answers.{answer_of, after_of, queued_bytes, front_taken, HandsBack};
-ghost use Rattle.vc_queue.specs.Growing.{AnswersWithMemory, KeepsFirst};
+ghost use Rattle.vc_queue.specs.Growing.{AnswersWithMemory, KeepsFirst, AreZero};
 ghost use Rattle.vc_queue.specs.Holds.{HoldState, with_payload};
 ghost use Rattle.vc_queue.specs.Releasing.{AllGoToUser};
 ghost use Rattle.vc_queue.specs.Lending.{IsLentFrom, IsBack, back_bytes};
@@ -499,7 +500,7 @@ impl Pair {
     }
 
     /// VIDIOC_REQBUFS of a side: drops all buffers of the queue, and makes `count` new ones of `length` bytes,
-    /// 32 at most.
+    /// [`MOST_BUFFERS`] at most. Their payloads are zeros.
     ///
     /// # Errors
     /// Those of [`Queue::reqbufs`].
@@ -514,6 +515,8 @@ impl Pair {
         requires fit { FitsBoth self.old hold.old }
         ensures answer { MakesBuffers (queue_at self.old side) count length result (queue_at self.new side) }
         ensures rest { self.new ≡ with_queue_at self.old side (queue_at self.new side) }
+        ensures zeros { OnOk result (AreZero side 0 (min count most_buffers) length hold.new) }
+        ensures asked { result ≡ Err NoMem → 0 < count }
         ensures other { KeepsFirst side 0 hold.old hold.new }
         ensures unchanged { OnErr result (hold.new ≡ hold.old) }
         ensures fit { FitsBoth self.new hold.new }
@@ -524,7 +527,8 @@ impl Pair {
         }
     }
 
-    /// VIDIOC_CREATE_BUFS of a side: adds `count` buffers of `length` bytes, as far as there is room for 32.
+    /// VIDIOC_CREATE_BUFS of a side: adds `count` buffers of `length` bytes, as far as there is room for
+    /// [`MOST_BUFFERS`]. Their payloads are zeros.
     ///
     /// # Errors
     /// Those of [`Queue::create`].
@@ -539,6 +543,8 @@ impl Pair {
         requires fit { FitsBoth self.old hold.old }
         ensures answer { AddsBuffers (queue_at self.old side) count length result (queue_at self.new side) }
         ensures rest { self.new ≡ with_queue_at self.old side (queue_at self.new side) }
+        ensures zeros { OnOk result (AreZero side (buffer_count (queue_at self.old side)) (created (queue_at self.old side) count) length hold.new) }
+        ensures asked { result ≡ Err NoMem → 0 < count }
         ensures kept { KeepsFirst side (buffer_count (queue_at self.old side)) hold.old hold.new }
         ensures unchanged { OnErr result (hold.new ≡ hold.old) }
         ensures fit { FitsBoth self.new hold.new }

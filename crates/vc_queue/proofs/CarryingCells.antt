@@ -1,7 +1,7 @@
 -- The cells of a queue, and more of them. The cells of a longer list are blank at first. Then one after another goes over
 -- with its payload, and is left empty where it was. A step changes one index of either list alone, so in the end each cell
 -- and each payload is at its index, and behind them stand the new cells.
-use Rattle.std.proofs.Common.{ℕ, suc, ◌+◌, ◌≡◌, ◌<◌, ◌≤◌, Option, None, List, [], ◌∷◌, ◌++◌, map, length, set, replicate, refl, sym, ap, ◌∙◌, subst, ⊎_elim, arith, get_or-set_same, get_or-set_other, length-set}
+use Rattle.std.proofs.Common.{ℕ, ◌+◌, ◌≡◌, ◌<◌, ◌≤◌, Option, None, List, [], ◌∷◌, ◌++◌, map, length, set, replicate, refl, sym, ap, ◌∙◌, subst, ⊎_elim, arith, get_or-set_same, get_or-set_other, length-set}
 use Rattle.std.proofs.lemmas.Bool.{cases_eq, cases_lt}
 use Rattle.std.proofs.lemmas.List.{map_push, length-replicate, get_or-replicate, replicate-append-replicate}
 use Rattle.vc_queue.specs.declared.cells.Cell.{Cell}
@@ -76,7 +76,8 @@ carrying_done first number size old n left now w ge le =
     }
 
 -- and all payloads
-pub carrying_same : (first number size : ℕ) (old : CellsState) (n : ℕ) (left now : CellsState) → Carrying first number size old n left now → first ≤ n → n ≤ first → ((i : ℕ) → first ≤ i → payload_at old.payloads i ≡ None) → (i : ℕ) → payload_at now.payloads i ≡ payload_at old.payloads i
+pub carrying_same : (first number size : ℕ) (old : CellsState) (n : ℕ) (left now : CellsState) → Carrying first number size old n left now → first ≤ n → n ≤ first → ((i : ℕ) → first ≤ i
+    → payload_at old.payloads i ≡ None) → (i : ℕ) → payload_at now.payloads i ≡ payload_at old.payloads i
 carrying_same first number size old n left now w ge le none i =
     ⊎_elim
     (λ (z : i < first). w.carried i (omega (arith, z, ge)))

@@ -103,7 +103,8 @@ middle_to_end lists a b i apart m =
     }
 
 -- the held buffers but one
-filter_step : (cells : List Cell) (i x : ℕ) (xs : List ℕ) → map (held_at cells) (without i xs) ≡ filter (λ h. not (h.index == i)) (map (held_at cells) xs) → (b : Bool) → eqb x i ≡ b → map (held_at cells) (without i (x ∷ xs)) ≡ filter (λ h. not (h.index == i)) (map (held_at cells) (x ∷ xs))
+filter_step : (cells : List Cell) (i x : ℕ) (xs : List ℕ) → map (held_at cells) (without i xs) ≡ filter (λ h. not (h.index == i)) (map (held_at cells) xs) → (b : Bool) → eqb x i ≡ b
+    → map (held_at cells) (without i (x ∷ xs)) ≡ filter (λ h. not (h.index == i)) (map (held_at cells) (x ∷ xs))
 filter_step cells i x xs r true e =
     ap (λ b. map (held_at cells) (cond (not b) (x ∷ without i xs) (without i xs))) e
     ∙ (r ∙ sym (ap (λ b. cond (not b) (held_at cells x ∷ filter (λ h. not (h.index == i)) (map (held_at cells) xs)) (filter (λ h. not (h.index == i)) (map (held_at cells) xs))) e))

@@ -1,7 +1,8 @@
 -- A buffer goes from the front of ready into the job, comes back from there or goes to done, and from the front of done to the
 -- user. Each is one cell that moves, and its payload with it, so the queue that callers see changes at this buffer alone, as
 -- the definitions say.
-use Rattle.std.proofs.Common.{not, ℕ, zero, suc, ◌+◌, ◌≡◌, ◌≢◌, ◌<◌, ◌≤◌, Bool, true, false, Option, Some, None, cond, ◌==◌, List, [], ◌∷◌, ◌++◌, map, length, set, take, refl, sym, ap, ◌∙◌, subst, arith, bit_and, get_or-set_same, get_or-set_other, length-set, lit<}
+use Rattle.std.proofs.Common.{not, ℕ, zero, suc, ◌+◌, ◌≡◌, ◌≢◌, ◌<◌, ◌≤◌, Bool, true, false, Option, Some, None, cond, ◌==◌, List, [], ◌∷◌, ◌++◌, map, length, set, take, refl, sym, ap, ◌∙◌, subst, arith, bit_and, get_or-set_same}
+use Rattle.std.proofs.Common.{get_or-set_other, length-set, lit<}
 use Rattle.std.specs.Prelude.{is_some}
 use Rattle.std.proofs.lemmas.Bool.{false≢true}
 use Rattle.std.proofs.lemmas.List.{map_push}

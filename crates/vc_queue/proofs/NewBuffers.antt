@@ -77,7 +77,8 @@ sum_four (a ∷ b ∷ c ∷ []) e = absurd (omega arith)
 sum_four (a ∷ b ∷ c ∷ d ∷ []) e = omega arith
 sum_four (a ∷ b ∷ c ∷ d ∷ f ∷ r) e = absurd (omega arith)
 
-pub number_is : (side : Side) (streams : Bool) (next_seq next_ordinal : ℕ) (lists : List (List ℕ)) (cells : List Cell) (payloads : List (Option (List ℕ))) (count : ℕ) → IsSound lists cells payloads count → buffer_count (state_of side streams next_seq next_ordinal lists cells payloads) ≡ count
+pub number_is : (side : Side) (streams : Bool) (next_seq next_ordinal : ℕ) (lists : List (List ℕ)) (cells : List Cell) (payloads : List (Option (List ℕ))) (count : ℕ) → IsSound lists cells payloads count
+    → buffer_count (state_of side streams next_seq next_ordinal lists cells payloads) ≡ count
 number_is side streams next_seq next_ordinal lists cells payloads count s =
     let f = buffer_at side cells payloads in
     omega (arith, s.total, sum_four lists s.apart.four, length-map (list_at lists 0) (held_at cells), length-map (list_at lists 1) f, length-map (list_at lists 2) f, length-map (list_at lists 3) f)
@@ -325,7 +326,8 @@ module _ (old new : List (List ℕ)) (cells more : List Cell) (payloads places :
       (λ m. ⊎_elim (λ (w : is_member j (list_at old 0) ≡ true). w) (λ (w : is_member j (numbers_from first number) ≡ true). absurd (out w)) (append_cases j (list_at old 0) (numbers_from first number) (subst (λ l. is_member j l ≡ true) grown0 m)))
       (grown_member 0 j)
 
-  fits_old : (places : List (Option (List ℕ))) (j : ℕ) → j < first → option_map length (payload_at places j) ≡ cond (is_member j (list_at old 0)) (Some (cell_at cells j).size) None → option_map length (payload_at places j) ≡ cond (is_member j (list_at new 0)) (Some (cell_at more j).size) None
+  fits_old : (places : List (Option (List ℕ))) (j : ℕ) → j < first → option_map length (payload_at places j) ≡ cond (is_member j (list_at old 0)) (Some (cell_at cells j).size) None
+      → option_map length (payload_at places j) ≡ cond (is_member j (list_at new 0)) (Some (cell_at more j).size) None
   fits_old places j h f =
       f
       ∙ (ap (λ b. cond b (Some (cell_at cells j).size) None) (sym (same_member j (λ (w : is_member j (numbers_from first number) ≡ true). let b = from_within first number j w in absurd (omega (arith, h, b.0)))))
@@ -400,7 +402,8 @@ cleared_other hold Out = refl
 cleared_other hold Cap = refl
 
 -- what ReqBufs answers where memory is found
-pub reqbufs_answer : (q now : QueueState) (count size number : ℕ) (r : Bool) → r ≡ q.streams → r ≡ false → number ≡ min count most_buffers → now ≡ added (cleared q) size number → AnswersWithMemory (reqbufs_refusal q) (min count most_buffers) (reqbufs_after q count size) (Ok number) q now
+pub reqbufs_answer : (q now : QueueState) (count size number : ℕ) (r : Bool) → r ≡ q.streams → r ≡ false → number ≡ min count most_buffers → now ≡ added (cleared q) size number
+    → AnswersWithMemory (reqbufs_refusal q) (min count most_buffers) (reqbufs_after q count size) (Ok number) q now
 reqbufs_answer q now count size number r er idle en state =
     let none : reqbufs_refusal q ≡ None = ap (λ b. refuse_if b Busy None) (sym er ∙ idle) in
     record {

@@ -1,7 +1,8 @@
 -- One cell moves from one list of a queue to another. It leaves the one and comes into the other, and all else stays in its
 -- list, in order. So each buffer is still in exactly the list that its cell tells, and what callers see of the other buffers
 -- is as it was.
-use Rattle.std.proofs.Common.{ℕ, suc, ◌≡◌, ◌≢◌, ◌<◌, ◌≤◌, eqb, Bool, true, false, ◌||◌, Option, List, [], ◌∷◌, ◌++◌, map, length, get_or, set, refl, sym, ap, ◌∙◌, subst, inl, inr, ◌⊎◌, ⊎_elim, arith, get_or-set_same, get_or-set_other, length-set, length-append}
+use Rattle.std.proofs.Common.{ℕ, suc, ◌≡◌, ◌≢◌, ◌<◌, ◌≤◌, eqb, Bool, true, false, ◌||◌, Option, List, [], ◌∷◌, ◌++◌, map, length, get_or, set, refl, sym, ap, ◌∙◌, subst, inl, inr, ◌⊎◌, ⊎_elim, arith, get_or-set_same}
+use Rattle.std.proofs.Common.{get_or-set_other, length-set, length-append}
 use Rattle.std.specs.List.{sum_by}
 use Rattle.std.proofs.lemmas.Bool.{eqb-true, eq-eqb, false≢true, or_cases, cases_eq}
 use Rattle.std.proofs.lemmas.List.Folds.{list_any-append}
@@ -39,7 +40,8 @@ cons_cases j i xs e =
 pub push_cases : (j i : ℕ) (xs : List ℕ) → is_member j (xs ++ i ∷ []) ≡ true → (j ≡ i) ⊎ (is_member j xs ≡ true)
 push_cases j i [] e = cons_cases j i [] e
 push_cases j i (x ∷ xs) e =
-    ⊎_elim (λ (h : j ≡ x). inr (subst (λ y. is_member y (x ∷ xs) ≡ true) (sym h) (member_here x xs))) (λ (h : is_member j (xs ++ i ∷ []) ≡ true). ⊎_elim (λ (g : j ≡ i). inl g) (λ (g : is_member j xs ≡ true). inr (member_there j x xs g)) (push_cases j i xs h)) (cons_cases j x (xs ++ i ∷ []) e)
+    ⊎_elim (λ (h : j ≡ x). inr (subst (λ y. is_member y (x ∷ xs) ≡ true) (sym h) (member_here x xs))) (λ (h : is_member j (xs ++ i ∷ []) ≡ true). ⊎_elim (λ (g : j ≡ i). inl g) (λ (g : is_member j xs ≡ true). inr
+    (member_there j x xs g)) (push_cases j i xs h)) (cons_cases j x (xs ++ i ∷ []) e)
 
 pub push_old : (j i : ℕ) (xs : List ℕ) → is_member j xs ≡ true → is_member j (xs ++ i ∷ []) ≡ true
 push_old j i xs e =

@@ -1,6 +1,7 @@
 -- The buffers of ready and done go back to the user when the queue stops. Their two lists go behind the held one, and each cell
 -- that is ready or done becomes a held one, whose payload the user gets; the buffer in the job stays.
-use Rattle.std.proofs.Common.{ℕ, ◌+◌, ◌≡◌, ◌≢◌, ◌<◌, ◌≤◌, eqb, ltb, Bool, true, false, ◌||◌, ◌&&◌, Option, Some, None, cond, List, [], ◌∷◌, ◌++◌, map, length, set, take, refl, sym, ap, ◌∙◌, subst, inl, inr, ◌⊎◌, ⊎_elim, arith, get_or-set_same, get_or-set_other, length-set, length-append, lit<}
+use Rattle.std.proofs.Common.{ℕ, ◌+◌, ◌≡◌, ◌≢◌, ◌<◌, ◌≤◌, eqb, ltb, Bool, true, false, ◌||◌, ◌&&◌, Option, Some, None, cond, List, [], ◌∷◌, ◌++◌, map, length, set, take, refl, sym, ap, ◌∙◌, subst, inl, inr, ◌⊎◌, ⊎_elim}
+use Rattle.std.proofs.Common.{arith, get_or-set_same, get_or-set_other, length-set, length-append, lit<}
 use Rattle.std.specs.List.{sum_by}
 use Rattle.std.specs.Option.{option_map}
 use Rattle.std.proofs.lemmas.Bool.{false≢true, cases_eq, cases_lt, and_parts, and_from, or_cases, or_left, or_right, lt-ltb, le-ltb, ltb-true, false_from_ne_true}
@@ -302,7 +303,8 @@ module _ (old m1 new : List (List ℕ)) (cells new_cells : List Cell) (payloads 
       ∙ ap (λ l. (map h (list_at old 0) ++ map held_again (map f (list_at old 1))) ++ l) (sym (back_map side cells payloads (list_at old 3))))))))
       (ap (map f') new1)
       (ap (map f') (newk 2 (λ (z : 2 ≡ 0). omega arith) (λ (z : 2 ≡ 1). omega arith) (λ (z : 2 ≡ 3). omega arith))
-      ∙ map_same f' f (list_at old 2) (λ j m. ap (λ c. buffer_of side j c (payload_at new_payloads j)) (r.cell j ∙ ap (λ b. released b (cell_at cells j)) (in_job j m)) ∙ ap (λ p. buffer_of side j (cell_at cells j) p) (r.payload j ∙ ap (λ b. cond b None (payload_at payloads j)) (in_job j m))))
+      ∙ map_same f' f (list_at old 2) (λ j m. ap (λ c. buffer_of side j c (payload_at new_payloads j)) (r.cell j ∙ ap (λ b. released b (cell_at cells j)) (in_job j m)) ∙ ap (λ p. buffer_of side j (cell_at cells j) p) (r.payload j
+      ∙ ap (λ b. cond b None (payload_at payloads j)) (in_job j m))))
       (ap (map f') new3)
 
   -- what goes to the user
@@ -316,7 +318,8 @@ module _ (old m1 new : List (List ℕ)) (cells new_cells : List Cell) (payloads 
       (λ (z : list_of (cell_at cells i).place ≡ 1). or_left (is_member i (list_at old 1)) (is_member i (list_at old 3)) (subst (λ k. is_member i (list_at old k) ≡ true) z found))
       (λ (z : list_of (cell_at cells i).place ≡ 3). or_right (is_member i (list_at old 1)) (is_member i (list_at old 3)) (subst (λ k. is_member i (list_at old k) ≡ true) z found))
       (goes_where (cell_at cells i).place p.1))
-      (λ t. let p = ⊎_elim (λ (w : is_member i (list_at old 1) ≡ true). from_one i w) (λ (w : is_member i (list_at old 3) ≡ true). from_three i w) (or_cases (is_member i (list_at old 1)) (is_member i (list_at old 3)) (sym (list_any-append (λ j. eqb j i) (list_at old 1) (list_at old 3)) ∙ t)) in
+      (λ t. let p = ⊎_elim (λ (w : is_member i (list_at old 1) ≡ true). from_one i w) (λ (w : is_member i (list_at old 3) ≡ true). from_three i w) (or_cases (is_member i (list_at old 1)) (is_member i (list_at old 3)) (sym
+      (list_any-append (λ j. eqb j i) (list_at old 1) (list_at old 3)) ∙ t)) in
       and_from (ltb i count) (goes_back (cell_at cells i).place) (lt-ltb i count p.0) p.1)
 
   with_going : (i : ℕ) → with_index i (map (buffer_at side cells payloads) (list_at old 1) ++ map (buffer_at side cells payloads) (list_at old 3)) ≡ cond (is_released cells count i) (Some (buffer_at side cells payloads i)) None
@@ -325,7 +328,8 @@ module _ (old m1 new : List (List ℕ)) (cells new_cells : List Cell) (payloads 
       ∙ (with_at (buffer_at side cells payloads) (λ j. refl) i (list_at old 1 ++ list_at old 3)
       ∙ ap (λ b. cond b (Some (buffer_at side cells payloads i)) None) (sym (going i)))
 
-  given_at : (i : ℕ) → is_released cells count i ≡ true → (payload : List ℕ) × (held_payload new_hold side i ≡ Some payload) × (length payload ≡ (cell_at cells i).size) × (known_bytes side (cell_at cells i).flags (take (cell_at cells i).used payload) ≡ (buffer_at side cells payloads i).bytes)
+  given_at : (i : ℕ) → is_released cells count i ≡ true → (payload : List ℕ) × (held_payload new_hold side i ≡ Some payload) × (length payload ≡ (cell_at cells i).size) × (known_bytes side (cell_at cells i).flags (take
+      (cell_at cells i).used payload) ≡ (buffer_at side cells payloads i).bytes)
   given_at i t =
       let p = and_parts (ltb i count) (goes_back (cell_at cells i).place) t in
       let st = stored_when (cell_at cells i).place (cell_at cells i) (payload_at payloads i) p.1 (s.stored i (ltb-true i count p.0)) in

@@ -63,7 +63,8 @@ told_place Ready index size flags a b i j m n f = cc
 told_place Job index size flags a b i j m n f = cc
 told_place Done index size flags a b i j m n f = cc
 
-told_same : (a b : Buffer) (m n : ℕ → Bool) → ((k : ℕ) → m k ≡ n k) → told (cond (m 0) (Some a) None) (cond (m 1) (Some b) None) (cond (m 2) (Some b) None) (cond (m 3) (Some b) None) ≡ told (cond (n 0) (Some a) None) (cond (n 1) (Some b) None) (cond (n 2) (Some b) None) (cond (n 3) (Some b) None)
+told_same : (a b : Buffer) (m n : ℕ → Bool) → ((k : ℕ) → m k ≡ n k) → told (cond (m 0) (Some a) None) (cond (m 1) (Some b) None) (cond (m 2) (Some b) None) (cond (m 3) (Some b) None) ≡ told (cond (n 0) (Some a) None) (cond
+    (n 1) (Some b) None) (cond (n 2) (Some b) None) (cond (n 3) (Some b) None)
 told_same a b m n h = rw (h 0, h 1, h 2, h 3) refl
 
 module _ (lists : List (List ℕ)) (cells : List Cell) (payloads : List (Option (List ℕ))) (count i : ℕ) (s : IsSound lists cells payloads count) where
@@ -88,7 +89,8 @@ module _ (lists : List (List ℕ)) (cells : List Cell) (payloads : List (Option 
 
   pub query_past : (side : Side) (streams : Bool) (next_seq next_ordinal : ℕ) → count ≤ i → Err Inval ≡ ok_or (querybuf_reply (state_of side streams next_seq next_ordinal lists cells payloads) i) Inval
   query_past side streams next_seq next_ordinal h =
-      ap (λ o. ok_or o Inval) (sym (told_is side streams next_seq next_ordinal ∙ told_none (held_at cells i) (buffer_at side cells payloads i) (buffer_at side cells payloads i) (buffer_at side cells payloads i) (λ k. is_member i (list_at lists k)) (member_past lists cells payloads count i s h)))
+      ap (λ o. ok_or o Inval) (sym (told_is side streams next_seq next_ordinal ∙ told_none (held_at cells i) (buffer_at side cells payloads i) (buffer_at side cells payloads i) (buffer_at side cells payloads i) (λ k. is_member i
+      (list_at lists k)) (member_past lists cells payloads count i s h)))
 
   pub query_at : (side : Side) (streams : Bool) (next_seq next_ordinal : ℕ) → i < count → Ok (Info i (cell_at cells i).size (told_flags (cell_at cells i).place (cell_at cells i).flags)) ≡ ok_or (querybuf_reply (state_of side streams next_seq next_ordinal lists cells payloads) i) Inval
   query_at side streams next_seq next_ordinal h =

@@ -1,6 +1,5 @@
 -- New buffers of a queue.
 use Rattle.std.specs.Prelude.{ℕ, zero, suc, ◌≡◌, ◌<◌, ◌≤◌, ◌+◌, ◌==◌, ◌||◌, ◌&&◌, nat_lt, Bool, true, false, length, replicate, Option, Some, None, Result, List, [], ◌∷◌, ◌++◌}
-use Rattle.std.specs.Option.{option_map}
 use Rattle.vc_base.specs.declared.Side.{Side}
 use Rattle.vc_base.specs.declared.Side.TheVariants.{Out, Cap}
 use Rattle.vc_base.specs.declared.Errno.{Errno}
@@ -79,5 +78,5 @@ cleared q = record q { held = []; ready = []; job = []; done = [] }
 
 -- no payload of the side is held
 abbrev pub without_side : HoldState → Side → HoldState
-without_side h Out = record h { out = replicate 32 None }
-without_side h Cap = record h { cap = replicate 32 None }
+without_side h Out = record h { out = replicate most_buffers None }
+without_side h Cap = record h { cap = replicate most_buffers None }

@@ -2,6 +2,7 @@
 
 ghost use Rattle.std.specs.Prelude.{◌≡◌, ◌<◌, ◌≤◌, ◌+◌, ℕ, None, Some, [], length, replicate, slice_set, IfOk, OnErr, OnOk};
 ghost use Rattle.std.specs.Option.{option_map};
+ghost use Rattle.vc_base.specs.Limits.{most_buffers};
 ghost use Rattle.vc_queue.specs.Cells.{cell_at, no_cells};
 ghost use Rattle.vc_queue.specs.Growing.{AreMore, new_cell};
 ghost use Rattle.vc_queue.specs.Payloads.{payload_at};
@@ -154,7 +155,7 @@ impl Cells {
         number: usize,
         size: u32,
     ) -> Result<(), NoMemory>
-        requires few { first + number ≤ 32 }
+        requires few { first + number ≤ most_buffers }
         requires there { first ≤ length self.old.cells }
         requires empty { (i : ℕ) → first ≤ i → payload_at self.old.payloads i ≡ None }
         ensures more { OnOk result (AreMore first number size self.old.cells self.new.cells) }

@@ -10,6 +10,7 @@ mod telling;
 
 ghost use Rattle.std.specs.Prelude.{◌≡◌, ◌≤◌};
 ghost use Rattle.vc_base.specs.Buffers.{new_queue, buffer_count};
+ghost use Rattle.vc_base.specs.Limits.{most_buffers};
 
 use crate::cells::Cells;
 use std::marker::Model;
@@ -43,7 +44,7 @@ pub struct Lent {
     pub payload: Vec<u8>,
 }
 
-/// One queue of a context, with 0 to 32 buffers. Each buffer is in one place: with the user, ready, in
+/// One queue of a context, with 0 to [`MOST_BUFFERS`] buffers. Each buffer is in one place: with the user, ready, in
 /// the job or done. Each buffer has a cell, with its payload where that lies in the queue, and four lists
 /// over the cells tell where each is. Cells take memory for the buffers that the queue has, and none
 /// before there are any. The rules are those of the chapter "Input/Output" of the Linux userspace API
@@ -93,10 +94,10 @@ impl Queue {
         self.streaming
     }
 
-    /// The number of buffers, 0 to 32.
+    /// The number of buffers, 0 to [`MOST_BUFFERS`].
     pub fn buffers(&self) -> u32
         ensures number { result ≡ buffer_count self.now }
-        ensures few { buffer_count self.now ≤ 32 }
+        ensures few { buffer_count self.now ≤ most_buffers }
     {
         self.count
     }

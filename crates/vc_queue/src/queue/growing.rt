@@ -27,7 +27,7 @@ fn cannot_grow(buffers: u32, count: u32, size: u32) -> bool
 
 /// Takes the payloads of so many new buffers, of zeros.
 fn new_payloads(alloc: Global, number: usize, size: u32) -> Result<Payloads, NoMemory>
-    requires { number ≤ 32 }
+    requires { number ≤ most_buffers }
     ensures new { IfOk result (λ p. HasNew 0 number size p) }
     ensures asked { OnErr result (0 < number) }
 {
@@ -41,7 +41,7 @@ fn new_payloads(alloc: Global, number: usize, size: u32) -> Result<Payloads, NoM
 
 /// Puts the cells of new buffers into the list of what the user holds.
 fn link_new(links: &mut Links, first: usize, number: usize)
-    requires few { first + number ≤ 32 }
+    requires few { first + number ≤ most_buffers }
     requires apart { AreApart links.old }
     requires free { (cell : ℕ) → first ≤ cell → ¬ IsInSome links.old cell }
     ensures linked { links.new ≡ with_list links.old 0 (list_at links.old 0 ++ numbers_from first number) }
@@ -54,7 +54,7 @@ fn link_new(links: &mut Links, first: usize, number: usize)
 
 /// Hands the payloads of new buffers to the user.
 fn hand_over(side: Side, first: usize, number: usize, payloads: &mut Payloads, hold: &mut Hold)
-    requires few { first + number ≤ 32 }
+    requires few { first + number ≤ most_buffers }
     requires there { (i : ℕ) → i < number → IsTrue (is_some (payload_at payloads.old i)) }
     ensures { AreHandedOver side first number payloads.old hold.old hold.new }
 {
@@ -67,7 +67,7 @@ fn hand_over(side: Side, first: usize, number: usize, payloads: &mut Payloads, h
 }
 
 impl Queue {
-    /// VIDIOC_REQBUFS: drops all buffers, and makes `count` new ones of `length` bytes, 32 at most,
+    /// VIDIOC_REQBUFS: drops all buffers, and makes `count` new ones of `length` bytes, [`MOST_BUFFERS`] at most,
     /// which the user holds. Their payloads are zeros. Gives their number.
     ///
     /// # Errors
@@ -108,13 +108,13 @@ impl Queue {
         Ok(number)
     }
 
-    /// VIDIOC_CREATE_BUFS: adds `count` buffers of `length` bytes, as far as there is room for 32, with
+    /// VIDIOC_CREATE_BUFS: adds `count` buffers of `length` bytes, as far as there is room for [`MOST_BUFFERS`], with
     /// the next indices. The user holds them, and their payloads are zeros. Gives the first new index, and the
     /// number of new buffers.
     ///
     /// # Errors
-    /// EINVAL where `length` is not 1 to 17,694,764, or the queue has 32 buffers and `count` is above 0,
-    /// else ENOMEM where a buffer is asked for and no memory is found. Then nothing changes.
+    /// EINVAL where `length` is not 1 to [`LONGEST_BUFFER`], or the queue has [`MOST_BUFFERS`] buffers and `count`
+    /// is above 0, else ENOMEM where a buffer is asked for and no memory is found. Then nothing changes.
     pub fn create(
         &mut self,
         alloc: Global,

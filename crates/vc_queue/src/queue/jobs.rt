@@ -63,11 +63,9 @@ impl Queue {
         ensures { self.new ≡ give_back_after self.old lent.cursor (back_bytes self.old.job lent) }
     {
         let Lent {
-            index: _,
-            used: _,
             cursor,
-            stamp: _,
             payload,
+            ..
         } = lent;
         let Some(index) = self.links.pop_front(JOB) else {
             unreachable!()
@@ -90,13 +88,7 @@ impl Queue {
         requires counts { self.old.next_seq < 2 ^ 62 }
         ensures { self.new ≡ retire_after self.old used (take used lent.payload.items) flags stamp }
     {
-        let Lent {
-            index: _,
-            used: _,
-            cursor: _,
-            stamp: _,
-            payload,
-        } = lent;
+        let Lent { payload, .. } = lent;
         let Some(index) = self.links.move_front(JOB, DONE) else {
             unreachable!()
         };

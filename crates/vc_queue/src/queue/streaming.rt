@@ -2,6 +2,7 @@
 
 ghost use Rattle.std.specs.Prelude.{◌≡◌, ◌≤◌, ◌++◌, length, is_some};
 ghost use Rattle.vc_base.specs.Buffers.{streamon_refusal, streamon_after, streamoff_after};
+ghost use Rattle.vc_base.specs.Limits.{most_buffers};
 ghost use Rattle.vc_queue.specs.Answers.{answer_of, after_of};
 ghost use Rattle.vc_queue.specs.Holds.{Fits};
 ghost use Rattle.vc_queue.specs.Releasing.{goes_back, AreStored, IsReleased, AllGoToUser};
@@ -25,7 +26,7 @@ fn goes_back(place: Place) -> bool
 
 /// Moves the payloads of the buffers on ready and done to the user.
 fn release(side: Side, count: usize, cells: &mut Cells, hold: &mut Hold)
-    requires few { count ≤ 32 }
+    requires few { count ≤ most_buffers }
     requires cells { count ≤ length cells.old.cells }
     requires stored { AreStored count cells.old.cells cells.old.payloads }
     ensures { IsReleased side count cells.old.cells cells.old.payloads hold.old cells.new.cells cells.new.payloads hold.new }

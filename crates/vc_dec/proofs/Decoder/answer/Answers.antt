@@ -1,7 +1,8 @@
-use Rattle.std.proofs.Common.{refl, true}
+use Rattle.std.proofs.Common.{rules, refl, true}
 use Rattle.vc_base.specs.declared.Errno.TheVariants.{Inval}
 use Rattle.vc_model.specs.Answer.{context_answer}
 use Rattle.vc_m2m.proofs.CallsLeftOver.{left_over}
+use Rattle.vc_context.proofs.NewBuffersAreZeros.{none_new, none_asked}
 use Rattle.vc_dec.proofs.AnswersByKind.{always, refused_at, no_setting}
 use Rattle.vc_dec.proofs.CommonCalls.{parts, of_kind, settled, counts, fits_both, shared_gives, shared_keeps, shared_steps}
 use Rattle.vc_dec.proofs.Decoder.answer.Goals as goal
@@ -31,9 +32,18 @@ unfolding context_answer
 returns-in-CreateBufs-clause-answers c =
     rw c.in-CreateBufs.is c.create.ensures.answers
 
-pub returns-in-SetFmt-clause-fit : goal.returns-in-SetFmt-clause-fit
-returns-in-SetFmt-clause-fit c =
-    c.set_format.ensures.holds c.args.hold.now c.requires.fits
+pub returns-in-SetFmt-clause-carried : goal.returns-in-SetFmt-clause-carried
+returns-in-SetFmt-clause-carried c =
+    record {
+      step = search rules;
+      moves = search rules;
+      fit =
+          c.set_format.ensures.holds c.args.hold.now c.requires.able.fits;
+      zeros =
+          search rules;
+      asked =
+          search rules;
+    }
 
 pub returns-in-SetCtrl-clause-answers : goal.returns-in-SetCtrl-clause-answers
 returns-in-SetCtrl-clause-answers c =
@@ -50,37 +60,40 @@ pub answer-requires-clause-settled : goal.answer-requires-clause-settled
 answer-requires-clause-settled c = settled c.self-in_default.inside c.args.self.now c.self-in_default.view_is c.self-in_default.invariant
 
 pub answer-requires-clause-fit : goal.answer-requires-clause-fit
-answer-requires-clause-fit c = fits_both c.self-in_default.inside c.args.self.now c.self-in_default.view_is c.self-in_default.invariant c.args.hold.now c.requires.fits
+answer-requires-clause-fit c = fits_both c.self-in_default.inside c.args.self.now c.self-in_default.view_is c.self-in_default.invariant c.args.hold.now c.requires.able.fits
 
 pub answer-requires-clause-room : goal.answer-requires-clause-room
-answer-requires-clause-room c = counts c.self-in_default.inside c.args.self.now c.self-in_default.view_is c.self-in_default.invariant c.requires.room
+answer-requires-clause-room c = counts c.self-in_default.inside c.args.self.now c.self-in_default.view_is c.self-in_default.invariant c.requires.able.room
 
 pub returns-in_default-clause-answers : goal.returns-in_default-clause-answers
 returns-in_default-clause-answers c =
     shared_gives c.self-in_default.inside c.args.self.now c.self-in_default.view_is c.self-in_default.invariant c.args.call.now _ c.answer.result
     c.answer.new.self
     (c.answer.ensures.answers c.args.self.now (parts c.self-in_default.inside c.args.self.now c.self-in_default.view_is c.self-in_default.invariant)
-    (of_kind c.self-in_default.inside c.args.self.now c.self-in_default.view_is c.self-in_default.invariant) c.requires.kept)
+    (of_kind c.self-in_default.inside c.args.self.now c.self-in_default.view_is c.self-in_default.invariant) c.requires.able.kept)
 
-pub returns-in_default-clause-step : goal.returns-in_default-clause-step
-returns-in_default-clause-step c =
-    shared_steps c.self-in_default.inside c.args.self.now c.self-in_default.view_is c.self-in_default.invariant c.args.call.now _ c.answer.result
-    c.answer.new.self c.args.hold.now c.answer.ensures.after
-    (c.answer.ensures.answers c.args.self.now (parts c.self-in_default.inside c.args.self.now c.self-in_default.view_is c.self-in_default.invariant)
-    (of_kind c.self-in_default.inside c.args.self.now c.self-in_default.view_is c.self-in_default.invariant) c.requires.kept)
-    c.requires.kept
-
-pub returns-in_default-clause-moves : goal.returns-in_default-clause-moves
-returns-in_default-clause-moves c =
-    c.answer.ensures.moves c.args.self.now (parts c.self-in_default.inside c.args.self.now c.self-in_default.view_is c.self-in_default.invariant) c.requires.kept
-
-pub returns-in_default-clause-fit : goal.returns-in_default-clause-fit
-returns-in_default-clause-fit c =
-    let f = c.answer.ensures.fit in record { out = f.0; cap = f.1 }
+pub returns-in_default-clause-carried : goal.returns-in_default-clause-carried
+returns-in_default-clause-carried c =
+    record {
+      step =
+          shared_steps c.self-in_default.inside c.args.self.now c.self-in_default.view_is c.self-in_default.invariant c.args.call.now _ c.answer.result
+          c.answer.new.self c.args.hold.now c.answer.ensures.after
+          (c.answer.ensures.answers c.args.self.now (parts c.self-in_default.inside c.args.self.now c.self-in_default.view_is c.self-in_default.invariant)
+          (of_kind c.self-in_default.inside c.args.self.now c.self-in_default.view_is c.self-in_default.invariant) c.requires.able.kept)
+          c.requires.able.kept;
+      moves =
+          c.answer.ensures.moves c.args.self.now (parts c.self-in_default.inside c.args.self.now c.self-in_default.view_is c.self-in_default.invariant) c.requires.able.kept;
+      fit =
+          let f = c.answer.ensures.fit in record { out = f.0; cap = f.1 };
+      zeros =
+          none_new c.args.self.now c.args.call.now c.answer.result _ c.in_default.not-ReqBufs c.in_default.not-CreateBufs;
+      asked =
+          λ e. none_asked c.args.call.now c.in_default.not-ReqBufs c.in_default.not-CreateBufs;
+    }
 
 pub invariant_of-self : goal.invariant_of-self
 invariant_of-self c =
     shared_keeps c.self-in_default.inside c.args.self.now c.self-in_default.view_is c.self-in_default.invariant c.args.call.now _ c.answer.result
     c.answer.new.self c.args.hold.now c.answer.ensures.after
     (c.answer.ensures.answers c.args.self.now (parts c.self-in_default.inside c.args.self.now c.self-in_default.view_is c.self-in_default.invariant)
-    (of_kind c.self-in_default.inside c.args.self.now c.self-in_default.view_is c.self-in_default.invariant) c.requires.kept)
+    (of_kind c.self-in_default.inside c.args.self.now c.self-in_default.view_is c.self-in_default.invariant) c.requires.able.kept)

@@ -1,4 +1,4 @@
-use Rattle.std.proofs.Common.{◌∙◌, ap, None}
+use Rattle.std.proofs.Common.{rules, ◌∙◌, ap, None}
 use Rattle.vc_geom.specs.Pairs.{pair_of}
 use Rattle.vc_model.specs.Context.{Context}
 use Rattle.vc_dec.proofs.ClaimsInCommon.{IsClaim, claim_phase, source_front, no_source, not_empty}
@@ -7,23 +7,23 @@ use Rattle.vc_dec.proofs.Decoder.claim_probe.Goals as goal
 
 pub lend-source-requires-clause-running : goal.lend-source-requires-clause-running
 lend-source-requires-clause-running c =
-    claim_phase (pair_of c.self.inside.m2m.formats) c.self.inside.geometry c.self.inside.m2m.pair c.self.inside.m2m.events c.self.inside.codec c.self.inside.job c.args.self.now c.self.view_is c.self.invariant c.requires.kept c.requires.due
+    claim_phase (pair_of c.self.inside.m2m.formats) c.self.inside.geometry c.self.inside.m2m.pair c.self.inside.m2m.events c.self.inside.codec c.self.inside.job c.args.self.now c.self.view_is c.self.invariant c.requires.able.kept c.requires.able.due
 
 pub lend-source-requires-clause-ready : goal.lend-source-requires-clause-ready
 lend-source-requires-clause-ready c =
     not_empty c.self.inside.m2m.pair.out.ready
     (source_front (pair_of c.self.inside.m2m.formats) c.self.inside.geometry c.self.inside.m2m.pair c.self.inside.m2m.events c.self.inside.codec
-    c.self.inside.job c.args.self.now c.self.view_is c.self.invariant c.requires.kept c.requires.due).some
+    c.self.inside.job c.args.self.now c.self.view_is c.self.invariant c.requires.able.kept c.requires.able.due).some
 
 pub lend-source-requires-clause-none_lent : goal.lend-source-requires-clause-none_lent
 lend-source-requires-clause-none_lent c =
-    no_source (pair_of c.self.inside.m2m.formats) c.self.inside.geometry c.self.inside.m2m.pair c.self.inside.m2m.events c.self.inside.codec c.self.inside.job c.args.self.now c.self.view_is c.self.invariant c.requires.kept c.requires.due
+    no_source (pair_of c.self.inside.m2m.formats) c.self.inside.geometry c.self.inside.m2m.pair c.self.inside.m2m.events c.self.inside.codec c.self.inside.job c.args.self.now c.self.view_is c.self.invariant c.requires.able.kept c.requires.able.due
 
 pub probe_work-requires : goal.probe_work-requires
 probe_work-requires c =
     probe_can (pair_of c.self.inside.m2m.formats) c.self.inside.geometry c.self.inside.m2m.pair c.self.inside.m2m.events c.self.inside.codec
     c.self.inside.job c.args.self.now (ap (λ (x : Context). x.geometry) c.self.view_is ∙ c.requires.unknown) c.self.view_is c.self.invariant
-    c.requires.kept c.requires.due c.lend-source.result c.lend_assembly-assembly.result c.lend-source.ensures.lent
+    c.requires.able.kept c.requires.able.due c.lend-source.result c.lend_assembly-assembly.result c.lend-source.ensures.lent
     c.lend_assembly-assembly.ensures.limit c.lend_assembly-assembly.ensures.kept
 
 claimed :
@@ -33,30 +33,32 @@ claimed :
 claimed c =
     probe_claims (pair_of c.self.inside.m2m.formats) c.self.inside.geometry c.self.inside.m2m.pair c.self.inside.m2m.events c.self.inside.codec
     c.self.inside.job c.args.self.now (ap (λ (x : Context). x.geometry) c.self.view_is ∙ c.requires.unknown) c.self.view_is c.self.invariant
-    c.requires.kept c.requires.due c.lend-source.result c.lend-source.new.self c.lend_assembly-assembly.new.self c.lend-source.ensures.after
+    c.requires.able.kept c.requires.able.due c.lend-source.result c.lend-source.new.self c.lend_assembly-assembly.new.self c.lend-source.ensures.after
     c.lend_assembly-assembly.ensures.left c.lend-source.ensures.lent
 
 pub invariant_of-self : goal.invariant_of-self
 invariant_of-self c = (claimed c).keeps
 
-pub returns-clause-after : goal.returns-clause-after
-returns-clause-after c = (claimed c).after
-
-pub returns-clause-step : goal.returns-clause-step
-returns-clause-step c = (claimed c).step
-
-pub returns-clause-work : goal.returns-clause-work
-returns-clause-work c =
-    probe_work (pair_of c.self.inside.m2m.formats) c.self.inside.geometry c.self.inside.m2m.pair c.self.inside.m2m.events c.self.inside.codec
-    c.self.inside.job c.args.self.now (ap (λ (x : Context). x.geometry) c.self.view_is ∙ c.requires.unknown) c.self.view_is c.self.invariant
-    c.requires.kept c.requires.due c.lend-source.result c.lend_assembly-assembly.result c.lend-source.ensures.lent
-    c.lend_assembly-assembly.ensures.limit c.lend_assembly-assembly.ensures.kept c.probe_work.result c.probe_work.ensures.work
-
-pub returns-clause-taken : goal.returns-clause-taken
-returns-clause-taken c = (claimed c).free
-
-pub returns-clause-runs : goal.returns-clause-runs
-returns-clause-runs c = (claimed c).runs
-
-pub returns-clause-holds : goal.returns-clause-holds
-returns-clause-holds c hold f = (claimed c).holds hold f
+pub returns : goal.returns
+returns c =
+    record {
+      claimed = record {
+        after =
+            (claimed c).after;
+        step =
+            (claimed c).step;
+        work =
+            probe_work (pair_of c.self.inside.m2m.formats) c.self.inside.geometry c.self.inside.m2m.pair c.self.inside.m2m.events c.self.inside.codec
+            c.self.inside.job c.args.self.now (ap (λ (x : Context). x.geometry) c.self.view_is ∙ c.requires.unknown) c.self.view_is c.self.invariant
+            c.requires.able.kept c.requires.able.due c.lend-source.result c.lend_assembly-assembly.result c.lend-source.ensures.lent
+            c.lend_assembly-assembly.ensures.limit c.lend_assembly-assembly.ensures.kept c.probe_work.result c.probe_work.ensures.work;
+        fits = search rules;
+        taken =
+            (claimed c).free;
+        runs =
+            (claimed c).runs;
+        holds =
+            λ hold f.
+            (claimed c).holds hold f;
+      };
+    }

@@ -1,4 +1,4 @@
-use Rattle.std.proofs.Common.{◌∙◌, sym, ap, subst, Some}
+use Rattle.std.proofs.Common.{rules, ◌∙◌, sym, ap, subst, Some}
 use Rattle.vc_base.specs.declared.Side.TheVariants.{Cap}
 use Rattle.vc_base.specs.Buffers.{lend_after, without_job_bytes}
 use Rattle.vc_geom.specs.Pairs.{pair_of}
@@ -12,43 +12,43 @@ use Rattle.vc_dec.proofs.Decoder.claim_run.Goals as goal
 
 pub lend-source-requires-clause-running : goal.lend-source-requires-clause-running
 lend-source-requires-clause-running c =
-    claim_phase (pair_of c.self.inside.m2m.formats) c.self.inside.geometry c.self.inside.m2m.pair c.self.inside.m2m.events c.self.inside.codec c.self.inside.job c.args.self.now c.self.view_is c.self.invariant c.requires.kept c.requires.due
+    claim_phase (pair_of c.self.inside.m2m.formats) c.self.inside.geometry c.self.inside.m2m.pair c.self.inside.m2m.events c.self.inside.codec c.self.inside.job c.args.self.now c.self.view_is c.self.invariant c.requires.able.kept c.requires.able.due
 
 pub lend-source-requires-clause-ready : goal.lend-source-requires-clause-ready
 lend-source-requires-clause-ready c =
     not_empty c.self.inside.m2m.pair.out.ready
     (source_front (pair_of c.self.inside.m2m.formats) c.self.inside.geometry c.self.inside.m2m.pair c.self.inside.m2m.events c.self.inside.codec
-    c.self.inside.job c.args.self.now c.self.view_is c.self.invariant c.requires.kept c.requires.due).some
+    c.self.inside.job c.args.self.now c.self.view_is c.self.invariant c.requires.able.kept c.requires.able.due).some
 
 pub lend-source-requires-clause-none_lent : goal.lend-source-requires-clause-none_lent
 lend-source-requires-clause-none_lent c =
-    no_source (pair_of c.self.inside.m2m.formats) c.self.inside.geometry c.self.inside.m2m.pair c.self.inside.m2m.events c.self.inside.codec c.self.inside.job c.args.self.now c.self.view_is c.self.invariant c.requires.kept c.requires.due
+    no_source (pair_of c.self.inside.m2m.formats) c.self.inside.geometry c.self.inside.m2m.pair c.self.inside.m2m.events c.self.inside.codec c.self.inside.job c.args.self.now c.self.view_is c.self.invariant c.requires.able.kept c.requires.able.due
 
 pub lend-dest-requires-clause-running : goal.lend-dest-requires-clause-running
 lend-dest-requires-clause-running c =
     rw c.lend-source.ensures.after
     (claim_phase (pair_of c.self.inside.m2m.formats) c.self.inside.geometry c.self.inside.m2m.pair c.self.inside.m2m.events c.self.inside.codec
-    c.self.inside.job c.args.self.now c.self.view_is c.self.invariant c.requires.kept c.requires.due)
+    c.self.inside.job c.args.self.now c.self.view_is c.self.invariant c.requires.able.kept c.requires.able.due)
 
 pub lend-dest-requires-clause-ready : goal.lend-dest-requires-clause-ready
 lend-dest-requires-clause-ready c =
     rw c.lend-source.ensures.after
     (not_empty c.self.inside.m2m.pair.cap.ready
     (dest_front (pair_of c.self.inside.m2m.formats) c.self.inside.geometry c.self.inside.m2m.pair c.self.inside.m2m.events c.self.inside.codec
-    c.self.inside.job c.args.self.now c.self.view_is c.self.invariant c.requires.kept c.requires.due
+    c.self.inside.job c.args.self.now c.self.view_is c.self.invariant c.requires.able.kept c.requires.able.due
     (λ e. c.requires.known (sym (ap (λ (x : Context). x.geometry) c.self.view_is) ∙ e))).some)
 
 pub lend-dest-requires-clause-none_lent : goal.lend-dest-requires-clause-none_lent
 lend-dest-requires-clause-none_lent c =
     rw c.lend-source.ensures.after
     (no_dest (pair_of c.self.inside.m2m.formats) c.self.inside.geometry c.self.inside.m2m.pair c.self.inside.m2m.events c.self.inside.codec
-    c.self.inside.job c.args.self.now c.self.view_is c.self.invariant c.requires.kept c.requires.due)
+    c.self.inside.job c.args.self.now c.self.view_is c.self.invariant c.requires.able.kept c.requires.able.due)
 
 pub lend_reference-reference-requires-clause-served : goal.lend_reference-reference-requires-clause-served
 lend_reference-reference-requires-clause-served c =
     run_served (pair_of c.self.inside.m2m.formats) c.self.inside.geometry c.self.inside.m2m.pair c.self.inside.m2m.events c.self.inside.codec
     c.self.inside.job c.args.self.now (λ e. c.requires.known (sym (ap (λ (x : Context). x.geometry) c.self.view_is) ∙ e)) c.self.view_is
-    c.self.invariant c.requires.kept c.requires.due c.lend-source.result c.lend-dest.result c.len-length.result c.lend-source.ensures.lent
+    c.self.invariant c.requires.able.kept c.requires.able.due c.lend-source.result c.lend-dest.result c.len-length.result c.lend-source.ensures.lent
     (subst (λ (q : PairState). IsLentFrom (queue_at q Cap).ready c.lend-dest.result) c.lend-source.ensures.after c.lend-dest.ensures.lent)
     (payload_length c.lend-dest.result c.len-length.result c.len-length.ensures)
 
@@ -56,7 +56,7 @@ pub lend_reference-reference-requires-clause-room : goal.lend_reference-referenc
 lend_reference-reference-requires-clause-room c =
     run_room (pair_of c.self.inside.m2m.formats) c.self.inside.geometry c.self.inside.m2m.pair c.self.inside.m2m.events c.self.inside.codec
     c.self.inside.job c.args.self.now (λ e. c.requires.known (sym (ap (λ (x : Context). x.geometry) c.self.view_is) ∙ e)) c.self.view_is
-    c.self.invariant c.requires.kept c.requires.due c.lend-source.result c.lend-dest.result c.len-length.result c.lend-source.ensures.lent
+    c.self.invariant c.requires.able.kept c.requires.able.due c.lend-source.result c.lend-dest.result c.len-length.result c.lend-source.ensures.lent
     (subst (λ (q : PairState). IsLentFrom (queue_at q Cap).ready c.lend-dest.result) c.lend-source.ensures.after c.lend-dest.ensures.lent)
     (payload_length c.lend-dest.result c.len-length.result c.len-length.ensures)
 
@@ -64,7 +64,7 @@ pub decode_work-requires : goal.decode_work-requires
 decode_work-requires c =
     run_can (pair_of c.self.inside.m2m.formats) c.self.inside.geometry c.self.inside.m2m.pair c.self.inside.m2m.events c.self.inside.codec
     c.self.inside.job c.args.self.now (λ e. c.requires.known (sym (ap (λ (x : Context). x.geometry) c.self.view_is) ∙ e)) c.self.view_is
-    c.self.invariant c.requires.kept c.requires.due c.lend-source.result c.lend-dest.result c.len-length.result c.lend-source.ensures.lent
+    c.self.invariant c.requires.able.kept c.requires.able.due c.lend-source.result c.lend-dest.result c.len-length.result c.lend-source.ensures.lent
     (subst (λ (q : PairState). IsLentFrom (queue_at q Cap).ready c.lend-dest.result) c.lend-source.ensures.after c.lend-dest.ensures.lent)
     (payload_length c.lend-dest.result c.len-length.result c.len-length.ensures) c.lend_reference-reference.new.self c.lend_assembly-assembly.new.self
     c.lend_reference-reference.result c.lend_assembly-assembly.result
@@ -86,7 +86,7 @@ claimed :
 claimed c =
     run_claims (pair_of c.self.inside.m2m.formats) c.self.inside.geometry c.self.inside.m2m.pair c.self.inside.m2m.events c.self.inside.codec
     c.self.inside.job c.args.self.now (λ e. c.requires.known (sym (ap (λ (x : Context). x.geometry) c.self.view_is) ∙ e)) c.self.view_is
-    c.self.invariant c.requires.kept c.requires.due c.lend-source.result c.lend-dest.result c.len-length.result c.lend-source.ensures.lent
+    c.self.invariant c.requires.able.kept c.requires.able.due c.lend-source.result c.lend-dest.result c.len-length.result c.lend-source.ensures.lent
     (subst (λ (q : PairState). IsLentFrom (queue_at q Cap).ready c.lend-dest.result) c.lend-source.ensures.after c.lend-dest.ensures.lent)
     (payload_length c.lend-dest.result c.len-length.result c.len-length.ensures) c.lend_reference-reference.new.self c.lend_assembly-assembly.new.self
     c.lend_reference-reference.result c.lend_assembly-assembly.result
@@ -105,36 +105,38 @@ claimed c =
 pub invariant_of-self : goal.invariant_of-self
 invariant_of-self c = (claimed c).keeps
 
-pub returns-clause-after : goal.returns-clause-after
-returns-clause-after c = (claimed c).after
-
-pub returns-clause-step : goal.returns-clause-step
-returns-clause-step c = (claimed c).step
-
-pub returns-clause-work : goal.returns-clause-work
-returns-clause-work c =
-    run_work (pair_of c.self.inside.m2m.formats) c.self.inside.geometry c.self.inside.m2m.pair c.self.inside.m2m.events c.self.inside.codec
-    c.self.inside.job c.args.self.now (λ e. c.requires.known (sym (ap (λ (x : Context). x.geometry) c.self.view_is) ∙ e)) c.self.view_is
-    c.self.invariant c.requires.kept c.requires.due c.lend-source.result c.lend-dest.result c.len-length.result c.lend-source.ensures.lent
-    (subst (λ (q : PairState). IsLentFrom (queue_at q Cap).ready c.lend-dest.result) c.lend-source.ensures.after c.lend-dest.ensures.lent)
-    (payload_length c.lend-dest.result c.len-length.result c.len-length.ensures) c.lend_reference-reference.new.self c.lend_assembly-assembly.new.self
-    c.lend_reference-reference.result c.lend_assembly-assembly.result
-    (record {
-      long = c.lend_reference-reference.ensures.length;
-      picture = c.lend_reference-reference.ensures.picture;
-      rooms = c.lend_reference-reference.ensures.rooms;
-      between = c.lend_reference-reference.ensures.left;
-      kept = c.lend_assembly-assembly.ensures.kept;
-      limit = c.lend_assembly-assembly.ensures.limit;
-      after = c.lend_assembly-assembly.ensures.left;
-    })
-    c.decode_work.result c.decode_work.ensures.work
-
-pub returns-clause-taken : goal.returns-clause-taken
-returns-clause-taken c = (claimed c).free
-
-pub returns-clause-runs : goal.returns-clause-runs
-returns-clause-runs c = (claimed c).runs
-
-pub returns-clause-holds : goal.returns-clause-holds
-returns-clause-holds c hold f = (claimed c).holds hold f
+pub returns : goal.returns
+returns c =
+    record {
+      claimed = record {
+        after =
+            (claimed c).after;
+        step =
+            (claimed c).step;
+        work =
+            run_work (pair_of c.self.inside.m2m.formats) c.self.inside.geometry c.self.inside.m2m.pair c.self.inside.m2m.events c.self.inside.codec
+            c.self.inside.job c.args.self.now (λ e. c.requires.known (sym (ap (λ (x : Context). x.geometry) c.self.view_is) ∙ e)) c.self.view_is
+            c.self.invariant c.requires.able.kept c.requires.able.due c.lend-source.result c.lend-dest.result c.len-length.result c.lend-source.ensures.lent
+            (subst (λ (q : PairState). IsLentFrom (queue_at q Cap).ready c.lend-dest.result) c.lend-source.ensures.after c.lend-dest.ensures.lent)
+            (payload_length c.lend-dest.result c.len-length.result c.len-length.ensures) c.lend_reference-reference.new.self c.lend_assembly-assembly.new.self
+            c.lend_reference-reference.result c.lend_assembly-assembly.result
+            (record {
+              long = c.lend_reference-reference.ensures.length;
+              picture = c.lend_reference-reference.ensures.picture;
+              rooms = c.lend_reference-reference.ensures.rooms;
+              between = c.lend_reference-reference.ensures.left;
+              kept = c.lend_assembly-assembly.ensures.kept;
+              limit = c.lend_assembly-assembly.ensures.limit;
+              after = c.lend_assembly-assembly.ensures.left;
+            })
+            c.decode_work.result c.decode_work.ensures.work;
+        fits = search rules;
+        taken =
+            (claimed c).free;
+        runs =
+            (claimed c).runs;
+        holds =
+            λ hold f.
+            (claimed c).holds hold f;
+      };
+    }

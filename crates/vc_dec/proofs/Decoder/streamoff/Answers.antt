@@ -14,18 +14,21 @@ returns-clause-answers c =
     c.streamoff.new.self c.settle.new.pair c.settle.new.events c.seek.new.codec c.streamoff.ensures.after c.seek.ensures c.settle.ensures.queues
     c.settle.ensures.told
 
-pub returns-clause-step : goal.returns-clause-step
-returns-clause-step c =
-    off_steps c.self.inside c.args.self.now c.self.view_is c.self.invariant c.args.side (sym c.is_some.ensures ∙ c.if-is_some.false)
-    c.streamoff.new.self c.settle.new.pair c.settle.new.events c.seek.new.codec c.streamoff.ensures.after c.seek.ensures c.settle.ensures.queues
-    c.settle.ensures.told c.requires.kept
-
-pub returns-clause-moves : goal.returns-clause-moves
-returns-clause-moves c =
-    off_moves c.self.inside c.args.self.now c.self.view_is c.self.invariant c.args.side (sym c.is_some.ensures ∙ c.if-is_some.false)
-    c.streamoff.new.self c.settle.new.pair c.settle.new.events c.seek.new.codec c.streamoff.ensures.after c.seek.ensures c.settle.ensures.queues
-    c.settle.ensures.told c.args.hold.now c.streamoff.new.hold c.streamoff.ensures.payloads
-
-pub returns-clause-fit : goal.returns-clause-fit
-returns-clause-fit c =
-    let f = c.settle.ensures.fit c.streamoff.new.hold c.streamoff.ensures.fit in record { out = f.0; cap = f.1 }
+pub returns-clause-carried : goal.returns-clause-carried
+returns-clause-carried c =
+    record {
+      step =
+          off_steps c.self.inside c.args.self.now c.self.view_is c.self.invariant c.args.side (sym c.is_some.ensures ∙ c.if-is_some.false)
+          c.streamoff.new.self c.settle.new.pair c.settle.new.events c.seek.new.codec c.streamoff.ensures.after c.seek.ensures c.settle.ensures.queues
+          c.settle.ensures.told c.requires.able.kept;
+      moves =
+          off_moves c.self.inside c.args.self.now c.self.view_is c.self.invariant c.args.side (sym c.is_some.ensures ∙ c.if-is_some.false)
+          c.streamoff.new.self c.settle.new.pair c.settle.new.events c.seek.new.codec c.streamoff.ensures.after c.seek.ensures c.settle.ensures.queues
+          c.settle.ensures.told c.args.hold.now c.streamoff.new.hold c.streamoff.ensures.payloads;
+      fit =
+          let f = c.settle.ensures.fit c.streamoff.new.hold c.streamoff.ensures.fit in record { out = f.0; cap = f.1 };
+      zeros =
+          tt;
+      asked =
+          λ e. tt;
+    }

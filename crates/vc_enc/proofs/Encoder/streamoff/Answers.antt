@@ -7,40 +7,43 @@ pub returns-clause-answers : goal.returns-clause-answers
 returns-clause-answers c =
     rw (c.settle.ensures.queues, c.settle.ensures.told, c.begin_anew_where.ensures, c.ends_capture-due.ensures)
     (off_gives (pair_of c.self.inside.m2m.formats) c.self.inside.controls c.self.inside.m2m.pair c.self.inside.m2m.events c.self.inside.reference
-    c.self.inside.job c.args.self.now c.self.view_is c.self.invariant c.requires.kept (sym c.is_some.ensures ∙ c.if-is_some.false) c.args.side
+    c.self.inside.job c.args.self.now c.self.view_is c.self.invariant c.requires.able.kept (sym c.is_some.ensures ∙ c.if-is_some.false) c.args.side
     c.streamoff.new.self c.streamoff.ensures.after)
 
-pub returns-clause-step : goal.returns-clause-step
-returns-clause-step c =
-    rw (c.settle.ensures.queues, c.settle.ensures.told, c.begin_anew_where.ensures, c.ends_capture-due.ensures)
-    (off_step (pair_of c.self.inside.m2m.formats) c.self.inside.controls c.self.inside.m2m.pair c.self.inside.m2m.events c.self.inside.reference
-    c.self.inside.job c.args.self.now c.self.view_is c.self.invariant c.requires.kept (sym c.is_some.ensures ∙ c.if-is_some.false) c.args.side
-    c.streamoff.new.self c.streamoff.ensures.after)
-
-pub returns-clause-moves : goal.returns-clause-moves
-returns-clause-moves c =
-    off_moves (pair_of c.self.inside.m2m.formats) c.self.inside.controls c.self.inside.m2m.pair c.self.inside.m2m.events c.self.inside.reference
-    c.self.inside.job c.args.self.now c.self.view_is c.self.invariant c.requires.kept (sym c.is_some.ensures ∙ c.if-is_some.false) c.args.side _ _
-    c.streamoff.ensures.payloads
-
-pub returns-clause-fit : goal.returns-clause-fit
-returns-clause-fit c =
-    let f = c.settle.ensures.fit c.streamoff.new.hold c.streamoff.ensures.fit in record { out = f.0; cap = f.1 }
+pub returns-clause-carried : goal.returns-clause-carried
+returns-clause-carried c =
+    record {
+      step =
+          rw (c.settle.ensures.queues, c.settle.ensures.told, c.begin_anew_where.ensures, c.ends_capture-due.ensures)
+          (off_step (pair_of c.self.inside.m2m.formats) c.self.inside.controls c.self.inside.m2m.pair c.self.inside.m2m.events c.self.inside.reference
+          c.self.inside.job c.args.self.now c.self.view_is c.self.invariant c.requires.able.kept (sym c.is_some.ensures ∙ c.if-is_some.false) c.args.side
+          c.streamoff.new.self c.streamoff.ensures.after);
+      moves =
+          off_moves (pair_of c.self.inside.m2m.formats) c.self.inside.controls c.self.inside.m2m.pair c.self.inside.m2m.events c.self.inside.reference
+          c.self.inside.job c.args.self.now c.self.view_is c.self.invariant c.requires.able.kept (sym c.is_some.ensures ∙ c.if-is_some.false) c.args.side _ _
+          c.streamoff.ensures.payloads;
+      fit =
+          let f = c.settle.ensures.fit c.streamoff.new.hold c.streamoff.ensures.fit in record { out = f.0; cap = f.1 };
+      zeros =
+          tt;
+      asked =
+          λ e. tt;
+    }
 
 pub streamoff-requires-clause-idle : goal.streamoff-requires-clause-idle
 streamoff-requires-clause-idle c =
     off_idle (pair_of c.self.inside.m2m.formats) c.self.inside.controls c.self.inside.m2m.pair c.self.inside.m2m.events c.self.inside.reference
-    c.self.inside.job c.args.self.now c.self.view_is c.self.invariant c.requires.kept (sym c.is_some.ensures ∙ c.if-is_some.false)
+    c.self.inside.job c.args.self.now c.self.view_is c.self.invariant c.requires.able.kept (sym c.is_some.ensures ∙ c.if-is_some.false)
 
 pub settle-requires-clause-done : goal.settle-requires-clause-done
 settle-requires-clause-done c =
     off_room (pair_of c.self.inside.m2m.formats) c.self.inside.controls c.self.inside.m2m.pair c.self.inside.m2m.events c.self.inside.reference
-    c.self.inside.job c.args.self.now c.self.view_is c.self.invariant c.requires.kept (sym c.is_some.ensures ∙ c.if-is_some.false) c.args.side
-    c.streamoff.new.self c.streamoff.ensures.after c.requires.room.cap_done
+    c.self.inside.job c.args.self.now c.self.view_is c.self.invariant c.requires.able.kept (sym c.is_some.ensures ∙ c.if-is_some.false) c.args.side
+    c.streamoff.new.self c.streamoff.ensures.after c.requires.able.room.cap_done
 
 pub invariant_of-self : goal.invariant_of-self
 invariant_of-self c =
     rw (c.settle.ensures.queues, c.begin_anew_where.ensures, c.ends_capture-due.ensures)
     (off_kept (pair_of c.self.inside.m2m.formats) c.self.inside.controls c.self.inside.m2m.pair c.self.inside.m2m.events c.self.inside.reference
-    c.self.inside.job c.args.self.now c.self.view_is c.self.invariant c.requires.kept (sym c.is_some.ensures ∙ c.if-is_some.false) c.args.side
+    c.self.inside.job c.args.self.now c.self.view_is c.self.invariant c.requires.able.kept (sym c.is_some.ensures ∙ c.if-is_some.false) c.args.side
     c.streamoff.new.self c.streamoff.ensures.after)

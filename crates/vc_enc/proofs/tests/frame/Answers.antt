@@ -3,16 +3,19 @@ use Rattle.vc_model.specs.Context.{Context}
 use Rattle.vc_enc.proofs.JobsBroughtBackByHand.{frame_back, has_room, one_more}
 use Rattle.vc_enc.proofs.tests.frame.Goals as goal
 
-pub finish-requires-clause-room : goal.finish-requires-clause-room
-finish-requires-clause-room g c = has_room _ _ c.requires.few (c.claim-work.ensures.step.counted _ c.requires.counted)
-
-pub finish-requires-clause-back : goal.finish-requires-clause-back
-finish-requires-clause-back g c =
-    frame_back _ _ _ _ (sym (ap (λ (x : Context). x.kind) c.encoder.view_is)) c.claim-work.ensures.work c.claim-work.ensures.fits c.claim-work.ensures.runs
+pub finish-requires : goal.finish-requires
+finish-requires g c =
+    record {
+      able = record {
+        kept = c.claim-work.ensures.claimed.step.kept;
+        room = has_room _ _ c.requires.few (c.claim-work.ensures.claimed.step.counted _ c.requires.counted);
+        back = frame_back _ _ _ _ (sym (ap (λ (x : Context). x.kind) c.encoder.view_is)) c.claim-work.ensures.claimed.work c.claim-work.ensures.claimed.fits c.claim-work.ensures.claimed.runs;
+      };
+    }
 
 pub returns-clause-fits : goal.returns-clause-fits
-returns-clause-fits g c = c.finish.ensures.holds _ (c.claim-work.ensures.holds _ c.requires.fits)
+returns-clause-fits g c = c.finish.ensures.finished.holds _ (c.claim-work.ensures.claimed.holds _ c.requires.fits)
 
 pub returns-clause-counted : goal.returns-clause-counted
 returns-clause-counted g c =
-    one_more _ _ (c.finish.ensures.step.counted _ (c.claim-work.ensures.step.counted _ c.requires.counted))
+    one_more _ _ (c.finish.ensures.finished.step.counted _ (c.claim-work.ensures.claimed.step.counted _ c.requires.counted))

@@ -11,18 +11,18 @@ returns-clause-holds c hold f =
     elim c.match-self.branch [
       | in-Copying w ↦
           rw w.self-inside-is
-          (w.claim.ensures.holds hold
+          (w.claim.ensures.claimed.holds hold
           (fits_inside c.args.self.now w.in-Copying.copier.value w.deref_mut.result.now hold
           (copying_view c.self.inside.content c.args.self.now w.in-Copying.copier c.self.view_is w.in-Copying.is) w.deref_mut.ensures.value f))
       | in-Encoding w ↦
           rw w.self-inside-is
-          (w.claim-in-Encoding.ensures.holds hold
+          (w.claim-in-Encoding.ensures.claimed.holds hold
           (fits_inside c.args.self.now w.in-Encoding.encoder.value w.deref_mut-in-Encoding.result.now hold
           (encoding_view c.self.inside.content c.args.self.now w.in-Encoding.encoder c.self.view_is w.in-Encoding.is)
           w.deref_mut-in-Encoding.ensures.value f))
       | in-Decoding w ↦
           rw w.self-inside-is
-          (w.claim-in-Decoding.ensures.holds hold
+          (w.claim-in-Decoding.ensures.claimed.holds hold
           (fits_inside c.args.self.now w.in-Decoding.decoder.value w.deref_mut-in-Decoding.result.now hold
           (decoding_view c.self.inside.content c.args.self.now w.in-Decoding.decoder c.self.view_is w.in-Decoding.is)
           w.deref_mut-in-Decoding.ensures.value f))

@@ -1,4 +1,3 @@
-use Rattle.std.proofs.Common.{arith}
 use Rattle.vc_queue.proofs.CarryingCells.{carrying_none, carrying_more, carrying_done, carrying_same}
 use Rattle.vc_queue.proofs.cells.Cells.grow.Goals as goal
 

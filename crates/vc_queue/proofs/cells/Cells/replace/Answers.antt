@@ -1,4 +1,4 @@
-use Rattle.std.proofs.Common.{◌≡◌, ℕ, Option, List, sym, ap, ◌∙◌, set, map, length, None, arith, get_or-set_same}
+use Rattle.std.proofs.Common.{sym, ap, ◌∙◌, set, map, length, None, arith, get_or-set_same}
 use Rattle.std.proofs.lemmas.List.{map-set, length-map}
 use Rattle.std.specs.Option.{option_map}
 use Rattle.vc_queue.specs.Kept.{items_of}

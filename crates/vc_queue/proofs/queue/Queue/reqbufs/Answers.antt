@@ -24,7 +24,8 @@ returns-clause-answer c =
     (held_more c.min-number.result c.args.length c.in-Ok-held.cells c.in-Ok-held.ensures.cells)
     (empty_room c.min-number.result c.in-Ok-held.cells.payloads c.in-Ok-held.ensures.payloads)
     (empty_places c.min-number.result c.in-Ok-held.cells.payloads c.in-Ok-held.ensures.payloads) c.link_new.ensures.linked c.self.inside.side c.self.inside.streaming c.self.inside.next_seq c.self.inside.next_ordinal
-    ∙ (ap (λ q. added q c.args.length c.min-number.result) (emptied c.self.inside.side c.self.inside.streaming c.self.inside.next_seq c.self.inside.next_ordinal c.self.inside.links c.self.inside.cells.cells c.self.inside.cells.payloads c.new-self-inside.result [] [] c.new-self-inside.ensures.empty)
+    ∙ (ap (λ q. added q c.args.length c.min-number.result) (emptied c.self.inside.side c.self.inside.streaming c.self.inside.next_seq c.self.inside.next_ordinal c.self.inside.links c.self.inside.cells.cells c.self.inside.cells.payloads
+    c.new-self-inside.result [] [] c.new-self-inside.ensures.empty)
     ∙ ap (λ q. added (cleared q) c.args.length c.min-number.result) c.self.view_is))
 
 pub returns-clause-fit : goal.returns-clause-fit
