@@ -2,7 +2,7 @@
 -- lie in the area; an I frame doesn't look at them; so the body over the area gives what the frame over the reference
 -- does.
 use Rattle.std.proofs.Common.{◌≡◌, ◌∙◌, sym, ap, subst, refl, ℕ, List, ◌++◌, length, drop}
-use Rattle.std.specs.Prelude.{Bool, true, false, ◌&&◌, ◌||◌, nat_le, IsSome}
+use Rattle.std.specs.Prelude.{Bool, true, false, ◌&&◌, ◌||◌, nat_le, IsSome, Result, Ok, Err, IsOk, IsErr}
 use Rattle.std.specs.declared.option.Option.{Option}
 use Rattle.std.specs.declared.option.Option.TheVariants.{Some, None}
 use Rattle.std.proofs.lemmas.Bool.{and_parts, cond-true}
@@ -56,7 +56,13 @@ frame_is h body bytes area geometry number since_key since_reset r good planes e
 pub none_given : (h : Header) (planes : Option (List (List ℕ))) → planes ≡ None → (false ≡ true → IsSome planes) × (IsSome planes → false ≡ true)
 none_given h planes e = subst (λ (p : Option (List (List ℕ))). (false ≡ true → IsSome p) × (IsSome p → false ≡ true)) (sym e) ((λ x. x), (λ x. x))
 
-pub dropped_is : (h : Header) (planes : Option (List (List ℕ))) (items area : List ℕ) (geometry : Option Geometry) (number : Option ℕ) (since_key since_reset : ℕ) (r : CodecReference) → planes ≡ None → reference_of area geometry number since_key since_reset ≡ r → length items ≡ length area →
+-- an error that `?` hands on stands for no planes
+pub failed_given : {A E : Type 0} (r : Result A E) (h : Header) (planes : Option (List (List ℕ))) → IsErr r → planes ≡ None → (IsOk r → IsSome planes) × (IsSome planes → IsOk r)
+failed_given (Ok x) h planes i e = let clash : false ≡ true = i in cc
+failed_given (Err d) h planes i e = none_given h planes e
+
+pub dropped_is :
+    (h : Header) (planes : Option (List (List ℕ))) (items area : List ℕ) (geometry : Option Geometry) (number : Option ℕ) (since_key since_reset : ℕ) (r : CodecReference) → planes ≡ None → reference_of area geometry number since_key since_reset ≡ r → length items ≡ length area →
     reference_of items None number since_key since_reset ≡ with_picture (picture_of h planes) r
 dropped_is h planes items area geometry number since_key since_reset r e er long =
     let s : EncoderState = record { reference = None; since_key = since_key; since_reset = since_reset } in

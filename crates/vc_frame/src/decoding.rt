@@ -102,10 +102,7 @@ pub fn decode_frame<C: BlockCoder>(
     if !good {
         return Err(Damaged);
     }
-    match read_body(coder, header, body, &mut reference.area) {
-        Ok(()) => {},
-        Err(damaged) => return Err(damaged),
-    }
+    read_body(coder, header, body, &mut reference.area)?;
     put_raw(&reference.area, fourcc, &header.geometry, out);
     reference.geometry = Some(header.geometry);
     reference.number = header.number;

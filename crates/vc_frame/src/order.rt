@@ -8,13 +8,8 @@ ghost use Rattle.vc_work.specs.References.{picture_total};
 ghost use Rattle.vc_frame.specs.Order.{IsRawOf, is_planar, chroma_samples};
 
 use vc_base::Fourcc;
+use vc_base::fourccs::{GREY, NV12, YUYV};
 use vc_defs::{Geometry, Layout};
-
-const GREY: Fourcc = Fourcc(*b"GREY");
-
-const NV12: Fourcc = Fourcc(*b"NV12");
-
-const YUYV: Fourcc = Fourcc(*b"YUYV");
 
 /// The layout of a raw format.
 pub(crate) fn layout_of(fourcc: Fourcc) -> Layout

@@ -120,8 +120,6 @@ pub(crate) fn read_planes<C: BlockCoder>(
         qp: 1,
     };
     let (mine, area) = area.split_at_mut(size.0 as usize * size.1 as usize);
-    match read_plane(coder, body, at, &shape, raw[0], mine) {
-        Ok(end) => read_planes(coder, sizes, &raw[1..], inter, body, end, area),
-        Err(damaged) => Err(damaged),
-    }
+    let end = read_plane(coder, body, at, &shape, raw[0], mine)?;
+    read_planes(coder, sizes, &raw[1..], inter, body, end, area)
 }

@@ -76,17 +76,11 @@ pub(crate) fn read_entry(
     ensures values { OnOk result (AreValues q.new) }
     ensures damaged { OnErr result (IsNoEntry bytes.now at frame left) }
 {
-    let word = match word_at(bytes, at) {
-        Ok(word) => word,
-        Err(damaged) => return Err(damaged),
-    };
+    let word = word_at(bytes, at)?;
     if !is_legal_head(frame, left, word) {
         return Err(Damaged);
     }
-    let end = match read_block(bytes, at + 2, q) {
-        Ok(end) => end,
-        Err(damaged) => return Err(damaged),
-    };
+    let end = read_block(bytes, at + 2, q)?;
     Ok(EntryRead {
         inter: is_inter(word),
         repeats: repeats(word),

@@ -38,10 +38,7 @@ fn read_coded<C: BlockCoder>(
     let mut end = at;
     let mut next = 0;
     while next < count {
-        let entry = match read_entry(body, end, shape.inter, count - next, &mut q) {
-            Ok(entry) => entry,
-            Err(damaged) => return Err(damaged),
-        };
+        let entry = read_entry(body, end, shape.inter, count - next, &mut q)?;
         let last = next + entry.repeats + 1;
         show_blocks(coder, &q, shape, entry.inter, reference, next, last);
         next = last;

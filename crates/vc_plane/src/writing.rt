@@ -34,10 +34,8 @@ fn put_entry(out: &mut [u8], pending: &Pending) -> Result<usize, Full>
     requires repeats { pending.now.repeats ≤ 4095 }
     ensures { Writes out.old out.new pending.now.end (entry_bytes (canon_entry (block_with pending.now.inter pending.now.values) pending.now.repeats)) result }
 {
-    match put_word(out, pending.end, head(pending.inter, pending.repeats)) {
-        Ok(end) => write_block(out, end, &pending.values),
-        Err(full) => Err(full),
-    }
+    let end = put_word(out, pending.end, head(pending.inter, pending.repeats))?;
+    write_block(out, end, &pending.values)
 }
 
 /// Whether a block is like the pending one.
@@ -66,10 +64,7 @@ fn add_block(out: &mut [u8], pending: &mut Pending, inter: bool, q: &[i32; 64]) 
         pending.repeats += 1;
         return Ok(());
     }
-    let end = match put_entry(out, pending) {
-        Ok(end) => end,
-        Err(full) => return Err(full),
-    };
+    let end = put_entry(out, pending)?;
     pending.inter = inter;
     pending.values = *q;
     pending.repeats = 0;
@@ -106,10 +101,7 @@ fn write_coded<C: BlockCoder>(
     for number in 1..block_count(shape) {
         let spot = spot_of(shape.width, shape.height, number);
         let inter = code_block(coder, plane, reference, shape, &spot, &mut old, &mut q);
-        match add_block(out, &mut pending, inter, &q) {
-            Ok(()) => {},
-            Err(full) => return Err(full),
-        }
+        add_block(out, &mut pending, inter, &q)?;
         show_block(coder, &q, shape, inter, &old, reference, &spot);
     }
     put_entry(out, &pending)

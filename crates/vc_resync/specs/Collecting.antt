@@ -2,6 +2,7 @@
 use Rattle.std.specs.Prelude.{◌≡◌, ℕ, ◌+◌, ◌<◌, ◌≤◌, List, [], ◌∷◌, ◌++◌, length, take, drop, vec_capacity}
 use Rattle.std.specs.declared.option.Option.{Option}
 use Rattle.std.specs.declared.option.Option.TheVariants.{Some, None}
+use Rattle.vc_base.specs.Limits.{header_size}
 use Rattle.vc_base.specs.declared.Stamp.{Stamp}
 use Rattle.vc_defs.specs.declared.Header.{Header}
 use Rattle.vc_defs.specs.Headers.{magic, header_from}
@@ -83,6 +84,11 @@ TakenBy limit tail all found body after (find ∷ later) = TakenFind limit tail 
 unfoldable pub Taken : ℕ → List ℕ → List ℕ → Found → List ℕ → List ℕ → Type 0
 Taken limit tail bytes found body after =
     TakenBy limit tail (tail ++ bytes) found body after (drop (told_of_tail tail) (finds (tail ++ bytes) limit))
+
+-- A head was taken: wherever it is cut into a tail that isn't a whole header and bytes behind it, these bytes were taken.
+abbrev pub HeadTaken : ℕ → List ℕ → Found → List ℕ → List ℕ → Type 0
+HeadTaken limit head found body after =
+    (tail bytes : List ℕ) → tail ++ bytes ≡ head → 0 < length tail → length tail < header_size → Taken limit tail bytes found body after
 
 -- how many bytes are kept behind so many more: where more than 43 are, all of them
 pub record Grows (before count after : ℕ) : Type 0 where

@@ -7,7 +7,7 @@ ghost use Rattle.vc_defs.specs.Places.{start_of_magic};
 ghost use Rattle.vc_resync.specs.Seeking.{Sought};
 ghost use Rattle.vc_resync.specs.Assembling.{IsLegalAnswer};
 ghost use Rattle.vc_resync.specs.declared.feeding.Found.TheVariants.{More};
-ghost use Rattle.vc_resync.specs.Collecting.{put_at, kept_in, HasRoom, IsSound, IsBegun, IsOpen, Taken, Grows};
+ghost use Rattle.vc_resync.specs.Collecting.{put_at, kept_in, HasRoom, IsSound, IsBegun, IsOpen, Taken, HeadTaken, Grows};
 
 use crate::feeding::Found;
 use crate::seeking::{MAGIC, seek};
@@ -168,7 +168,7 @@ impl Collected {
         ensures sound { IsSound self.new }
         ensures legal { IsLegalAnswer self.old.limit result }
         ensures few { length (kept_in self.new) ≤ header_size }
-        ensures taken { (tail bytes : List ℕ) → tail ++ bytes ≡ self.old.head → 0 < length tail → length tail < header_size → Taken self.old.limit tail bytes result self.new.body.items (kept_in self.new) }
+        ensures taken { HeadTaken self.old.limit self.old.head result self.new.body.items (kept_in self.new) }
     {
         let (count, matched) = seek(0, &self.head[8..]);
         match vc_header::read(&self.head, self.limit) {

@@ -8,4 +8,4 @@ read_planes-requires g t c κs within =
     let is = c.in-Some.ensures.cases.0 in
     let total : plane_total c.args.sizes.now ≡ c.in-Some.size.now.0 * c.in-Some.size.now.1 + plane_total c.in-Some.sizes.now = ap plane_total is in
     let count : length c.args.sizes.now ≡ length c.in-Some.sizes.now + 1 = sym c.in-Some.ensures.cases.1 in
-    (omega arith, (within, ((some_first c.args.sizes.now c.in-Some.size.now c.in-Some.sizes.now is c.requires.some).2, (omega (arith, total), (omega (arith, count, length-take (length c.args.raw.now - 1) (drop 1 c.args.raw.now), length-drop 1 c.args.raw.now), c.in-Ok.ensures.ok.inside.1)))))
+    (omega arith, (within, ((some_first c.args.sizes.now c.in-Some.size.now c.in-Some.sizes.now is c.requires.some).2, (omega (arith, total), (omega (arith, count, length-take (length c.args.raw.now - 1) (drop 1 c.args.raw.now), length-drop 1 c.args.raw.now), c.in_ok-end.ensures.ok.inside.1)))))

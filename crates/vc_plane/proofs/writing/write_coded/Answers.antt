@@ -1,9 +1,10 @@
 use Rattle.std.proofs.Common.{refl, ◌≡◌, ◌∙◌, subst, ℕ, ◌+◌, ◌<◌, [], arith}
-use Rattle.vc_defs.specs.Planes.{block_count, block_of, coded_block, coded_blocks, decoded_plane}
+use Rattle.vc_defs.specs.Planes.{block_count, block_of, coded_block, coded_blocks, canon_plane, decoded_plane}
 use Rattle.vc_coder.specs.Blocks.{block_with}
 use Rattle.vc_plane.specs.Samples.{AreShown}
 use Rattle.vc_plane.proofs.BlocksAreShownInTurn.{AreDecoded, none_decoded, all_decoded}
 use Rattle.vc_plane.proofs.BlocksAreCodedInTurn.{length-coded_blocks, block_coded, first_coded, more_coded, not_coded, all_coded, count_some, on_ok}
+use Rattle.vc_rlc.proofs.WordsAreWrittenInTurn.{err_is}
 use Rattle.vc_plane.proofs.writing.write_coded.Goals as goal
 
 pub loop-number-init : goal.loop-number-init
@@ -45,22 +46,24 @@ loop-number-preserved g c =
           (coded_blocks c.args.shape.now.inter c.args.shape.now.qp c.args.plane.now c.args.reference.now c.args.shape.now.width c.args.shape.now.height) c.requires.some.0 c.requires.some.1 inside so_far.decoded
           (subst (λ (n : ℕ). block_with c.code_block-inter-in-loop-number.result c.code_block-inter-in-loop-number.new.q ≡ coded_block c.args.shape.now.inter c.args.shape.now.qp (block_of c.args.plane.now c.args.shape.now.width c.args.shape.now.height n)
           (block_of c.loop-number.reference c.args.shape.now.width c.args.shape.now.height n)) c.spot_of-spot-in-loop-number.ensures.number c.code_block-inter-in-loop-number.ensures.coded))
-          so_far c.in-Ok.ensures.ok (subst (λ (n : ℕ). AreShown c.loop-number.reference c.show_block-in-loop-number.new.reference c.args.shape.now.width c.args.shape.now.height n (n + 1)
+          so_far c.in_ok-add_block.ensures.ok (subst (λ (n : ℕ). AreShown c.loop-number.reference c.show_block-in-loop-number.new.reference c.args.shape.now.width c.args.shape.now.height n (n + 1)
           (block_with c.code_block-inter-in-loop-number.result c.code_block-inter-in-loop-number.new.q)) c.spot_of-spot-in-loop-number.ensures.number c.show_block-in-loop-number.ensures);
     }
 
-pub returns-in-Err-clause-bytes : goal.returns-in-Err-clause-bytes
-returns-in-Err-clause-bytes g c =
+pub returns-in_err-add_block-clause-bytes : goal.returns-in_err-add_block-clause-bytes
+returns-in_err-add_block-clause-bytes g c =
     let inside : c.loop-number.number < block_count c.args.shape.now.width c.args.shape.now.height = omega (arith, c.loop-number.invariant.end, c.loop-number-test.true) in
     let so_far = c.loop-number.invariant.coded in
-    not_coded (coded_blocks c.args.shape.now.inter c.args.shape.now.qp c.args.plane.now c.args.reference.now c.args.shape.now.width c.args.shape.now.height) c.args.reference.now c.loop-number.reference c.args.shape.now.width c.args.shape.now.height c.loop-number.number
+    err_is c.args.out.now c.add_block.new.out 0 (canon_plane (coded_blocks c.args.shape.now.inter c.args.shape.now.qp c.args.plane.now c.args.reference.now c.args.shape.now.width c.args.shape.now.height))
+    c.in_err-add_block.field-0.0 c.from_residual.result
+    (not_coded (coded_blocks c.args.shape.now.inter c.args.shape.now.qp c.args.plane.now c.args.reference.now c.args.shape.now.width c.args.shape.now.height) c.args.reference.now c.loop-number.reference c.args.shape.now.width c.args.shape.now.height c.loop-number.number
     c.args.out.now c.loop-number.out c.add_block.new.out c.loop-number.pending
-    c.code_block-inter-in-loop-number.result c.code_block-inter-in-loop-number.new.q c.in-Err.full (omega (arith, inside, length-coded_blocks c.args.shape.now.inter c.args.shape.now.qp c.args.plane.now c.args.reference.now c.args.shape.now.width c.args.shape.now.height))
+    c.code_block-inter-in-loop-number.result c.code_block-inter-in-loop-number.new.q c.in_err-add_block.field-0.0 (omega (arith, inside, length-coded_blocks c.args.shape.now.inter c.args.shape.now.qp c.args.plane.now c.args.reference.now c.args.shape.now.width c.args.shape.now.height))
     (block_coded c.args.shape.now.inter c.args.shape.now.qp c.args.plane.now c.args.reference.now c.loop-number.reference c.args.shape.now.width c.args.shape.now.height c.loop-number.number (block_with c.code_block-inter-in-loop-number.result c.code_block-inter-in-loop-number.new.q)
     (coded_blocks c.args.shape.now.inter c.args.shape.now.qp c.args.plane.now c.args.reference.now c.args.shape.now.width c.args.shape.now.height) c.requires.some.0 c.requires.some.1 inside so_far.decoded
     (subst (λ (n : ℕ). block_with c.code_block-inter-in-loop-number.result c.code_block-inter-in-loop-number.new.q ≡ coded_block c.args.shape.now.inter c.args.shape.now.qp (block_of c.args.plane.now c.args.shape.now.width c.args.shape.now.height n)
     (block_of c.loop-number.reference c.args.shape.now.width c.args.shape.now.height n)) c.spot_of-spot-in-loop-number.ensures.number c.code_block-inter-in-loop-number.ensures.coded))
-    so_far c.in-Err.ensures.full
+    so_far c.in_err-add_block.ensures.full) c.from_residual.ensures.0
 
 pub put_entry-requires-clause-place : goal.put_entry-requires-clause-place
 put_entry-requires-clause-place g c = c.loop-number.invariant.coded.inside
