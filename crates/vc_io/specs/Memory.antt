@@ -10,10 +10,11 @@ pub record Feed : Type 0 where
   pub calls : ℕ
   pub faults : ℕ
 
--- A sink in memory: the bytes that were written, the room for all of them, the most that a call takes, the numbers
--- of the calls that fail, and how many calls and failures there were.
+-- A sink in memory: the bytes that were written, those of them that were handed on, the room for all of them, the most
+-- that a call takes, the numbers of the calls that fail, and how many calls and failures there were.
 pub record Store : Type 0 where
   pub written : List ℕ
+  pub handed : List ℕ
   pub room : ℕ
   pub step : ℕ
   pub fails : List ℕ

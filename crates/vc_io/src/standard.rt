@@ -1,6 +1,4 @@
-ghost use Rattle.std.specs.Prelude.{◌≡◌};
-ghost use Rattle.std.specs.Io.KnownBytes.{Keeps};
-ghost use Rattle.vc_base.specs.Counts.{HasCause};
+ghost use Rattle.std.specs.Prelude.{◌≡◌, None};
 
 use crate::{ReadFailed, Sink, Source, WriteFailed};
 use std::io::{Read, Write};
@@ -39,9 +37,9 @@ impl<I: Read> Source for StdSource<I> {
     }
 }
 
-/// Any writer as a sink, such as standard output. It tells what was written where the writer does. A
-/// failure of the writer is one of the sink, and so is a write that takes nothing of a piece that
-/// isn't empty.
+/// Any writer as a sink, such as standard output. It tells what was written where the writer does, and
+/// doesn't tell what was handed on, since no writer does. A failure of the writer is one of the sink,
+/// and so is a write that takes nothing of a piece that isn't empty. Each call is one of the writer.
 #[derive(Drop)]
 pub struct StdSink<O: Write> {
     output: O,
@@ -56,23 +54,12 @@ impl<O: Write> StdSink<O> {
     {
         StdSink { output, faults: 0 }
     }
-
-    /// Hands on what the writer keeps back, as a buffered one does. Where the writer fails, the sink counts a fault, and
-    /// what was not handed on is kept.
-    pub fn flush(&mut self) -> Result<(), WriteFailed>
-        ensures written { Keeps (⟦<StdSink<O> as Sink>⟧.written self.old) (⟦<StdSink<O> as Sink>⟧.written self.new) }
-        ensures cause { HasCause (⟦<StdSink<O> as Sink>⟧.faults self.old) (⟦<StdSink<O> as Sink>⟧.faults self.new) result }
-    {
-        if self.output.flush().is_err() {
-            self.faults = self.faults.saturating_add(1);
-            return Err(WriteFailed);
-        }
-        Ok(())
-    }
 }
 
 impl<O: Write> Sink for StdSink<O> {
     ghost written = { λ s. O.contents s.output };
+
+    ghost handed = { λ s. None };
 
     ghost faults = { λ s. s.faults };
 
@@ -84,5 +71,13 @@ impl<O: Write> Sink for StdSink<O> {
                 Err(WriteFailed)
             }
         }
+    }
+
+    fn flush(&mut self) -> Result<(), WriteFailed> {
+        if self.output.flush().is_err() {
+            self.faults = self.faults.saturating_add(1);
+            return Err(WriteFailed);
+        }
+        Ok(())
     }
 }

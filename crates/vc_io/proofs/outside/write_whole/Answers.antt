@@ -8,11 +8,11 @@ loop-rest-preserved g c =
     let w =
     wrote_more (g.K.Sink.written c.args.sink.now) (g.K.Sink.written c.loop-rest.sink) (g.K.Sink.written c.write.new.self) c.args.bytes.now
     c.loop-rest.rest.now c.in_ok-count.count (g.K.Sink.faults c.args.sink.now) (g.K.Sink.faults c.loop-rest.sink) (g.K.Sink.faults c.write.new.self)
-    c.loop-rest.invariant c.in_ok-count.ensures.bound c.in_ok-count.ensures.bytes c.in_ok-count.ensures.cause.never_falls in
+    c.loop-rest.invariant c.in_ok-count.ensures.bound c.in_ok-count.ensures.bytes c.in_ok-count.ensures.quiet in
     record {
       count = w.count;
       within = w.within;
       rest_is = take_all _ _ (omega (arith, length-drop c.in_ok-count.count c.loop-rest.rest.now)) ∙ w.rest_is;
       appended = w.appended;
-      later = w.later;
+      quiet = w.quiet;
     }
