@@ -26,6 +26,12 @@ abbrev pub IsLimited : {T : Type 0} (result : Result T Stop) (old new : List Sol
 IsLimited result old new =
     (start : List SoloEvent) (limited : Bool) → IsOpened start limited old → OnOk result (IsOpened start true new)
 
+-- a decoder was opened, and got nothing yet
+pub record HasOpened (events : List SoloEvent) : Type 0 where
+  pub start : List SoloEvent
+  pub limited : Bool
+  pub opened : IsOpened start limited events
+
 -- Calls
 
 -- where the step came through, it changed the stream so

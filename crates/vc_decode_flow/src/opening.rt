@@ -1,14 +1,16 @@
 //! Opens a slot for a flow.
 
 ghost use Rattle.std.specs.Prelude.{◌≡◌, true, false, None, List, OnOk, IfErr};
+ghost use Rattle.vc_base.specs.declared.Kind.TheVariants.{Dec};
+ghost use Rattle.vc_base.specs.Events.{has_event};
 ghost use Rattle.vc_model.specs.Solo.{SoloEvent};
 ghost use Rattle.vc_port.specs.Payloads.{slot_after, bytes_out};
 ghost use Rattle.vc_stream_laws.specs.Streams.{stream_at_start, IsStream, IsOpened};
-ghost use Rattle.vc_decode_flow.specs.Promises.{StaysOpened, IsLimited};
+ghost use Rattle.vc_decode_flow.specs.Promises.{StaysOpened, HasOpened, IsLimited};
 
 use vc_base::limits::{EOS_EVENT, MOST_BYTES, SOURCE_CHANGE_EVENT};
 use vc_base::{Call, Format, Fourcc, Kind, Side};
-use vc_flow::{Stop, call_done, request_buffers};
+use vc_flow::{Stop, call_done, call_granted, request_buffers};
 use vc_port::PayloadPort;
 
 /// The buffers of OUTPUT.
@@ -32,18 +34,20 @@ fn open_slot<P: PayloadPort>(port: &mut P) -> Result<(), Stop>
     ensures bytes { bytes_out (P.events port.new) ≡ bytes_out (P.events port.old) }
     ensures memory { IfErr result (λ stop. stop ≡ Stop.NoMemory) }
 {
-    call_done(port, &Call::Open { kind: Kind::Dec })
+    call_granted(port, &Call::Open { kind: Kind::Dec })
 }
 
 fn subscribe<P: PayloadPort>(port: &mut P, event: u32) -> Result<(), Stop>
     requires ready { P.ready port.old }
+    requires opened { HasOpened (P.events port.old) }
+    requires event { has_event Dec event ≡ true }
     ensures ready { P.ready port.new }
     ensures follows { P.follows port.old port.new }
     ensures opened { StaysOpened result (P.events port.old) (P.events port.new) }
     ensures bytes { bytes_out (P.events port.new) ≡ bytes_out (P.events port.old) }
     ensures memory { IfErr result (λ stop. stop ≡ Stop.NoMemory) }
 {
-    call_done(port, &Call::Subscribe { event })
+    call_granted(port, &Call::Subscribe { event })
 }
 
 fn set_format<P: PayloadPort>(port: &mut P) -> Result<(), Stop>

@@ -1,8 +1,8 @@
 -- A flow between two pictures: what was read, queued and taken so far. All frames but the last four are taken, since one is
--- before each picture from the fifth on; so at the end of the input four are left, or as many as there are pictures. An
--- input is too long after so many pictures as have 2^40 bytes.
-use Rattle.std.proofs.Common.{ℕ, suc, zero, nat_eq, ◌≡◌, ◌≤◌, ◌<◌, ◌+◌, ◌*◌, ◌/◌, ◌%◌, ◌^◌, ◌⊎◌, min, List, [], ◌∷◌, ◌++◌, length, Bool, true, false, Option, Some, None, refl, sym, ap, ◌∙◌, subst, arith, All, append-nil, length-append, div-add-mod', inl, inr}
-use Rattle.std.specs.Prelude.{Result, Ok, Err, IsErrAnd, IsErrOf}
+-- before each picture from the fifth on; so at the end of the input four are left, or as many as there are pictures. The
+-- bytes that were read are counted, and an input is too long where they are 2^40.
+use Rattle.std.proofs.Common.{ℕ, suc, zero, nat_eq, ◌≡◌, ◌≤◌, ◌<◌, ◌+◌, ◌^◌, ◌⊎◌, ◌≢◌, min, take, List, [], ◌∷◌, ◌++◌, length, Bool, true, false, Option, Some, None, refl, sym, ap, ◌∙◌, subst, arith, All, append-nil, length-append, length-take, inl, inr}
+use Rattle.std.specs.Prelude.{Result, Ok, Err, IfErr, IsErrAnd, IsErrOf}
 use Rattle.std.specs.Io.KnownBytes.{Appends, Consumes, IsAtEnd}
 use Rattle.std.proofs.KnownBytes.{Consumes-nil, Consumes-trans}
 use Rattle.std.proofs.lemmas.Bool.{cases_lt, eqb-true}
@@ -13,11 +13,12 @@ use Rattle.vc_port.specs.Payloads.{bytes_out}
 use Rattle.vc_encode_flow.specs.Frames.{joined}
 use Rattle.vc_encode_flow.specs.Flows.{FlowSoFar, with_picture, HasBegun, IsFlow}
 use Rattle.vc_flow.specs.Calls.{HandedFirst}
-use Rattle.vc_encode_flow.specs.Steps.{IsAt, StopsEarly, HasTaken, with_frames}
+use Rattle.vc_encode_flow.specs.Steps.{ReadsBelow, ReadsBeyond, IsAt, StopsEarly, HasTaken, with_frames}
 use Rattle.vc_encode_flow.specs.Endings.{IsThrough, IsCutShort}
-use Rattle.vc_flow.specs.Inputs.{BeginsWith, IsLong}
+use Rattle.vc_flow.specs.Inputs.{BeginsWith, IsBelow, IsJustLong}
+use Rattle.vc_flow.proofs.InputsAreBounded.{is_below, is_just_long}
 use Rattle.vc_flow.specs.declared.ends.Stop.{Stop}
-use Rattle.vc_flow.specs.declared.ends.Stop.TheVariants.{EngineFault}
+use Rattle.vc_flow.specs.declared.ends.Stop.TheVariants.{ReadFault, TooLong}
 use Rattle.vc_encode_flow.proofs.StoppingWritesAPrefix.{joined_append, stopped_at, stopped_later}
 use Rattle.vc_encode_flow.proofs.AllFramesAreTaken.{all_taken}
 
@@ -35,10 +36,10 @@ pub record IsGoing (start : List SoloEvent) (f : FlowSoFar) (size number : ℕ) 
   pub read : Consumes left left_now (joined pictures)
   pub at : IsAt start (with_both f pictures frames) first written events
 
--- so many pictures were read
-pub record HasRead (size number : ℕ) (left left_now : Option (List ℕ)) : Type 0 where
+-- so many bytes were read
+pub record HasRead (total : ℕ) (left left_now : Option (List ℕ)) : Type 0 where
   pub bytes : List ℕ
-  pub long : length bytes ≡ number * size
+  pub long : length bytes ≡ total
   pub read : Consumes left left_now bytes
 
 none_yet : (f : FlowSoFar) → HasBegun f → f ≡ with_both f [] []
@@ -174,36 +175,54 @@ goes_unfed_next start f size number first written later left left_now old mid ne
 
 -- Counting what was read
 
-pub read_none : (size : ℕ) (left : Option (List ℕ)) → HasRead size 0 left left
-read_none size left = record { bytes = []; long = omega arith; read = Consumes-nil left }
+pub read_none : (left : Option (List ℕ)) → HasRead 0 left left
+read_none left = record { bytes = []; long = omega arith; read = Consumes-nil left }
 
-pub read_more : (size number : ℕ) (left left_now left_later : Option (List ℕ)) (picture : List ℕ) → HasRead size number left left_now → length picture ≡ size → Consumes left_now left_later picture → HasRead size (number + 1) left left_later
-read_more size number left left_now left_later picture w s c =
+pub read_on : (total count : ℕ) (left left_now left_later : Option (List ℕ)) (picture : List ℕ) → HasRead total left left_now → count ≤ length picture → Consumes left_now left_later (take count picture) → HasRead (total + count) left left_later
+read_on total count left left_now left_later picture w l c =
     let before = w.long in
     record {
-      bytes = w.bytes ++ picture;
-      long = omega (arith, before, s, length-append w.bytes picture);
-      read = Consumes-trans left left_now left_later w.bytes picture w.read c;
+      bytes = w.bytes ++ take count picture;
+      long = omega (arith, before, l, length-take count picture, length-append w.bytes (take count picture));
+      read = Consumes-trans left left_now left_later w.bytes (take count picture) w.read c;
     }
 
-read_long : (input rest bytes : List ℕ) (count : ℕ) → count ≤ length bytes → input ≡ bytes ++ rest → count + length rest ≤ length input
-read_long input rest bytes count l c =
-    let long = ap (λ (z : List ℕ). length z) c in
-    omega (arith, l, long, length-append bytes rest)
+pub read_below : (total : ℕ) (left left_now : Option (List ℕ)) → HasRead total left left_now → total < 2 ^ 40 → IsBelow left left_now
+read_below total left left_now w l =
+    let long = w.long in is_below left left_now w.bytes w.read (omega (arith, long, l))
 
-enough : (size : ℕ) → 0 < size → 2 ^ 40 ≤ (2 ^ 40 / size + 1) * size
-enough size p =
-    let parts = div-add-mod' (2 ^ 40) size in
-    let part : 2 ^ 40 % size < size = omega (arith, p) in
-    omega (arith, parts, part)
-
-pub reads_long : (size number : ℕ) (left left_now : Option (List ℕ)) → 0 < size → number ≡ 2 ^ 40 / size + 1 → HasRead size number left left_now → IsLong left left_now
-reads_long size number None left_now p n w = tt
-reads_long size number (Some input) None p n w = absurd w.read
-reads_long size number (Some input) (Some rest) p n w =
-    let most : 2 ^ 40 ≤ number * size = subst (λ (z : ℕ). 2 ^ 40 ≤ z * size) (sym n) (enough size p) in
+-- a read failed, or the input is too long
+pub failed_below : (total room : ℕ) (left left_now left_later : Option (List ℕ)) → HasRead total left left_now → total + room ≡ 2 ^ 40 → ReadsBelow room left_now left_later → IsBelow left left_later
+failed_below total room left left_now left_later w e r =
     let long = w.long in
-    read_long input rest w.bytes (2 ^ 40) (omega (arith, most, long)) w.read
+    let less = r.1 in
+    is_below left left_later (w.bytes ++ r.0) (Consumes-trans left left_now left_later w.bytes r.0 w.read r.2) (omega (arith, long, less, e, length-append w.bytes r.0))
+
+pub just_long : (total room more : ℕ) (left left_now left_later : Option (List ℕ)) → HasRead total left left_now → total + room ≡ 2 ^ 40 → ReadsBeyond room more left_now left_later → IsJustLong more left left_later
+just_long total room more left left_now left_later w e r =
+    let long = w.long in
+    let least = r.1 in
+    let most = r.2 in
+    is_just_long more left left_later (w.bytes ++ r.0) (Consumes-trans left left_now left_later w.bytes r.0 w.read r.3)
+    (omega (arith, long, least, e, length-append w.bytes r.0)) (omega (arith, long, most, e, length-append w.bytes r.0))
+
+-- by how a read stopped that was passed on
+pub stopped_below : {T U : Type 0} (r : Result T Stop) (stop : Stop) (total room : ℕ) (left left_now left_later : Option (List ℕ)) →
+    IsErrAnd r (λ (e : Stop). e ≡ stop) → (stop ≡ ReadFault) ⊎ (stop ≡ TooLong) →
+    (IsErrOf {T = U} (Err stop) ReadFault → ReadsBelow room left_now left_later) → HasRead total left left_now → total + room ≡ 2 ^ 40 →
+    (IsErrOf r TooLong → ⊥) → IsBelow left left_later
+stopped_below (Ok v) stop total room left left_now left_later a o b w e n = absurd a
+stopped_below (Err s) stop total room left left_now left_later a (inl q) b w e n =
+    failed_below total room left left_now left_later w e (b (ap (λ (z : Stop). Err z) q))
+stopped_below (Err s) stop total room left left_now left_later a (inr q) b w e n = absurd (n (ap (λ (z : Stop). Err z) (a ∙ q)))
+
+pub stopped_long : {T U : Type 0} (r : Result T Stop) (stop : Stop) (total room more : ℕ) (left left_now left_later : Option (List ℕ)) →
+    IsErrAnd r (λ (e : Stop). e ≡ stop) → (IsErrOf {T = U} (Err stop) TooLong → ReadsBeyond room more left_now left_later) →
+    HasRead total left left_now → total + room ≡ 2 ^ 40 → IsErrOf r TooLong → IsJustLong more left left_later
+stopped_long (Ok v) stop total room more left left_now left_later a l w e q = absurd a
+stopped_long (Err s) stop total room more left left_now left_later a l w e q =
+    let p : s ≡ TooLong = cc in
+    just_long total room more left left_now left_later w e (l (ap (λ (z : Stop). Err z) (sym a ∙ p)))
 
 -- Numbers
 
@@ -213,5 +232,3 @@ is_zero n e = eqb-true n 0 e
 pub is_more : (n : ℕ) → nat_eq n 0 ≡ false → 0 < n
 is_more zero e = absurd (cc)
 is_more (suc n) e = omega arith
-
--- Faults

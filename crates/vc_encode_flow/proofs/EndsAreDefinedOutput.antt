@@ -1,7 +1,7 @@
 -- How a flow ends, in terms of what is defined for its input. An input of whole pictures and a part of one is cut into
 -- exactly these pictures, and their frames are the output that is defined for it; those of its first pictures are a prefix.
 use Rattle.std.proofs.Common.{ℕ, nat_eq, ◌≡◌, ◌≤◌, ◌<◌, ◌+◌, List, [], ◌∷◌, ◌++◌, length, Bool, true, false, not, Option, Some, None, refl, sym, ap, ◌∙◌, subst, arith, All, append-nil, append_assoc}
-use Rattle.std.specs.Prelude.{Result, Ok, Err, IfOk, OnErr}
+use Rattle.std.specs.Prelude.{Result, Ok, Err, IfOk, OnOk, OnErr}
 use Rattle.std.specs.Io.KnownBytes.{Consumes, IsAtEnd}
 use Rattle.std.proofs.KnownBytes.{Appends-nil}
 use Rattle.std.proofs.lemmas.Bool.{ne_eqb}
@@ -150,3 +150,7 @@ is_front start before events format rates left left_now first written (Err stop)
 pub came_through : (r : Result Bool Stop) (X : Bool → Type 0) (whole : Bool) → r ≡ Ok whole → IfOk r X → X whole
 came_through (Ok w) X whole e t = let q : w ≡ whole = cc in subst X q t
 came_through (Err stop) X whole e t = absurd (cc)
+
+pub on_through : {X : Type 0} (r : Result Bool Stop) (whole : Bool) → r ≡ Ok whole → OnOk r X → X
+on_through (Ok w) whole e t = t
+on_through (Err stop) whole e t = absurd (cc)

@@ -1,7 +1,7 @@
 -- Claims and finishes keep a flow. A claim moves the next picture from ready to the job; a finish without a fault adds its
 -- frame to done, and one with a fault adds a buffer with ERROR, after which nothing more is said of the frames.
-use Rattle.std.proofs.Common.{ℕ, ◌≡◌, ◌≤◌, ◌+◌, Bool, true, false, not, cond, ◌&&◌, is_none, Option, Some, None, List, [], ◌∷◌, ◌++◌, length, refl, sym, ap, ◌∙◌, subst, arith, length-append, append_assoc, inl, inr, ⊎_elim}
-use Rattle.std.specs.List.{list_all}
+use Rattle.std.proofs.Common.{ℕ, ◌≡◌, ◌≤◌, ◌+◌, Bool, true, false, not, cond, ◌&&◌, ◌||◌, is_none, Option, Some, None, List, [], ◌∷◌, ◌++◌, length, refl, sym, ap, ◌∙◌, subst, arith, length-append, append_assoc, inl, inr, ⊎_elim}
+use Rattle.std.specs.List.{list_all, list_any}
 use Rattle.std.proofs.lemmas.Bool.{false≢true}
 use Rattle.std.proofs.lemmas.List.{map-append, append-nil}
 use Rattle.std.proofs.lemmas.List.Folds.{list_all-append}
@@ -25,7 +25,7 @@ use Rattle.vc_laws.proofs.EffectsOfCalls.{Settles, still, owes, gives}
 use Rattle.vc_laws.proofs.EffectsOfEvents.{HasJob, Puts, puts_fault, puts_copy, puts_frame, puts_picture, puts_damage, Ends, alone, kept, ended, halts, spends, done_out, done_cap, moved_out, ClaimsCap, probes, runs, Step, calls, rests, lacks_job, claims, finishes, faults}
 use Rattle.vc_laws.proofs.OpenContextsAreTidy.{IsTidy, IsRunOf, HasRun}
 use Rattle.vc_port.specs.Payloads.{is_of_job}
-use Rattle.vc_encode_flow.specs.Flows.{FlowSoFar, frames_for, state_for, payloads, AreGood, RunsAt, IsEncoding, HasFrames, HasFault, IsUnderWay}
+use Rattle.vc_encode_flow.specs.Flows.{FlowSoFar, frames_for, state_for, payloads, AreGood, HasBad, RunsAt, IsEncoding, HasFrames, HasFault, IsUnderWay}
 use Rattle.vc_encode_flow.proofs.FramesGoOn.{frames_append, state_append}
 
 -- Settling, where no drain goes on
@@ -128,6 +128,25 @@ good_end : (bs : List Buffer) (z : Buffer) → has_error z.flags ≡ false → A
 good_end bs z e h =
     list_all-append (λ b. not (has_error b.flags)) bs (z ∷ []) ∙ (ap (λ t. t && (not (has_error z.flags) && true)) h ∙ ap (λ t. not t && true) e)
 
+or_then : (a b c : Bool) → (b ≡ true → c ≡ true) → (a || b) ≡ true → (a || c) ≡ true
+or_then true b c h e = refl
+or_then false b c h e = h e
+
+or_last : (a b : Bool) → b ≡ true → (a || b) ≡ true
+or_last true b e = refl
+or_last false b e = e
+
+-- one with ERROR among others
+pub bad_first : (bs more : List Buffer) → HasBad bs → HasBad (bs ++ more)
+bad_first [] more h = absurd (false≢true h)
+bad_first (b ∷ bs) more h =
+    or_then (has_error b.flags) (list_any (λ z. has_error z.flags) bs) (list_any (λ z. has_error z.flags) (bs ++ more)) (bad_first bs more) h
+
+pub bad_last : (bs : List Buffer) (z : Buffer) → has_error z.flags ≡ true → HasBad (bs ++ z ∷ [])
+bad_last [] z e = ap (λ t. t || false) e
+bad_last (b ∷ bs) z e =
+    or_last (has_error b.flags) (list_any (λ y. has_error y.flags) (bs ++ z ∷ [])) (bad_last bs z e)
+
 cap_bytes : (side : Side) (flags : ℕ) (bytes : List ℕ) → side ≡ Cap → known_bytes side flags bytes ≡ bytes
 cap_bytes side flags bytes e = ap (λ s. known_bytes s flags bytes) e
 
@@ -137,6 +156,7 @@ frame_under_way f c b d before now side j h =
     let s = state_for f h.coded in
     let frame = encode s f.format f.rates b.bytes in
     let z : Buffer = record d { used = length frame.bytes; bytes = known_bytes c.cap.side (type_flag frame.key) frame.bytes; flags = type_flag frame.key; stamp = b.stamp; seq = c.cap.next_seq } in
+    let y : Buffer = record b { bytes = known_bytes c.out.side 0 b.bytes; flags = 0; seq = c.out.next_seq } in
     let waits : f.queued ≡ h.coded ++ payloads (b ∷ c.out.ready) = h.waiting ∙ ap (λ l. h.coded ++ payloads (l ++ c.out.ready)) j in
     let whole : z.bytes ≡ frame.bytes = cap_bytes c.cap.side (type_flag frame.key) frame.bytes side in
     record {
@@ -148,6 +168,7 @@ frame_under_way f c b d before now side j h =
           ∙ (ap (λ l. l ++ z.bytes ∷ []) h.frames ∙ (ap (λ l. frames_for f h.coded ++ l ∷ []) whole
           ∙ sym (frames_append fresh_encoder f.format f.rates h.coded (b.bytes ∷ [])))));
       good = good_end c.cap.done z (type_is_good frame.key) h.good;
+      sources = good_end c.out.done y refl h.sources;
       counted = omega (arith, h.counted, length-append h.coded (b.bytes ∷ []));
     }
 
@@ -155,6 +176,7 @@ frame_under_way f c b d before now side j h =
 pub fault_under_way : (f : FlowSoFar) (c : Context) (b d : Buffer) (before now before_bad now_bad : ℕ) → before_bad ≤ now_bad → c.out.job ≡ b ∷ [] → HasFrames f c before now → HasFault f (after_fault c b d) before_bad (now_bad + 1)
 fault_under_way f c b d before now before_bad now_bad l j h =
     let z : Buffer = record d { used = 0; bytes = known_bytes c.cap.side error_flag []; flags = error_flag; stamp = b.stamp; seq = c.cap.next_seq } in
+    let y : Buffer = record b { bytes = known_bytes c.out.side error_flag b.bytes; flags = error_flag; seq = c.out.next_seq } in
     record {
       coded = h.coded;
       lost = b.bytes;
@@ -167,12 +189,14 @@ fault_under_way f c b d before now before_bad now_bad l j h =
       frames = h.frames;
       good = h.good;
       flag = refl;
+      source = bad_last c.out.done y refl;
       counted = omega (arith, l);
     }
 
 -- what is done only grows
-later_under_way : (f : FlowSoFar) (c y : Context) (more : List Buffer) (before now later : ℕ) → now ≤ later → y.cap.done ≡ c.cap.done ++ more → HasFault f c before now → HasFault f y before later
-later_under_way f c y more before now later l e h =
+later_under_way : (f : FlowSoFar) (c y : Context) (more sources : List Buffer) (before now later : ℕ) → now ≤ later →
+    y.cap.done ≡ c.cap.done ++ more → y.out.done ≡ c.out.done ++ sources → HasFault f c before now → HasFault f y before later
+later_under_way f c y more sources before now later l e o h =
     record {
       coded = h.coded;
       lost = h.lost;
@@ -185,6 +209,7 @@ later_under_way f c y more before now later l e h =
       frames = h.frames;
       good = h.good;
       flag = h.flag;
+      source = subst HasBad (sym o) (bad_first c.out.done sources h.source);
       counted = omega (arith, h.counted, l);
     }
 
@@ -208,12 +233,12 @@ pub record GoesOn (f : FlowSoFar) (good_before good_now faults_before faults_now
 
 pub frames_later : (f : FlowSoFar) (c : Context) (before now later : ℕ) → now ≤ later → HasFrames f c before now → HasFrames f c before later
 frames_later f c before now later l h =
-    record { coded = h.coded; codec = h.codec; waiting = h.waiting; frames = h.frames; good = h.good; counted = omega (arith, h.counted, l) }
+    record { coded = h.coded; codec = h.codec; waiting = h.waiting; frames = h.frames; good = h.good; sources = h.sources; counted = omega (arith, h.counted, l) }
 
 pub under_way_later : (f : FlowSoFar) (c : Context) (g h l i m n : ℕ) → h ≤ i → m ≤ n → IsUnderWay f c g h l m → IsUnderWay f c g i l n
 under_way_later f c g h l i m n a b (inl x) = inl (frames_later f c g h i a x)
 under_way_later f c g h l i m n a b (inr x) =
-    inr (later_under_way f c c [] l m n b (sym (append-nil c.cap.done)) x)
+    inr (later_under_way f c c [] [] l m n b (sym (append-nil c.cap.done)) (sym (append-nil c.out.done)) x)
 
 encodes_frame : (f : FlowSoFar) (c : Context) (b d : Buffer) (frame : EncodedFrame) → IsEncoding f c → IsEncoding f (after_frame c b d frame)
 encodes_frame f c b d frame w =
@@ -258,10 +283,12 @@ claim_under_way f c b rest k o g h l m e j d (inl x) =
       waiting = x.waiting ∙ (ap (λ q. x.coded ++ payloads (q ++ c.out.ready)) j ∙ ap (λ q. x.coded ++ payloads q) e);
       frames = ap (λ q. f.taken ++ payloads q) d ∙ x.frames;
       good = ap (λ q. list_all (λ (z : Buffer). not (has_error z.flags)) q) d ∙ x.good;
+      sources = x.sources;
       counted = x.counted;
     })
 claim_under_way f c b rest k o g h l m e j d (inr x) =
-    inr (later_under_way f c (record c { out = lend_front c.out (b ∷ rest); cap = k; running = o }) [] l m m (omega arith) (d ∙ sym (append-nil c.cap.done)) x)
+    inr (later_under_way f c (record c { out = lend_front c.out (b ∷ rest); cap = k; running = o }) [] [] l m m (omega arith)
+    (d ∙ sym (append-nil c.cap.done)) (sym (append-nil c.out.done)) x)
 
 -- a finish without a fault
 finish_goes_on : (f : FlowSoFar) (c : Context) (r : Running) (job : HasJob c r) (x y : Context) (word : List ℕ) (g h l m : ℕ) → IsOrdered c →
@@ -288,7 +315,7 @@ finish_goes_on f c r job x y word g h l m o t w ends u (inr q) =
       context = z;
       there = ap (λ (v : Context). Some v) end.1;
       encodes = encodes_frame f c job.source end.0 frame w;
-      under_way = inr (later_under_way f c z _ l m (m + 0) (omega arith) refl q);
+      under_way = inr (later_under_way f c z _ _ l m (m + 0) (omega arith) refl refl q);
     }
 
 -- a finish with a fault
@@ -311,7 +338,7 @@ fault_goes_on f c r job x y word g h l m v t w ends u (inr q) =
       context = z;
       there = ap (λ (v : Context). Some v) end.1;
       encodes = encodes_fault f c job.source end.0 w;
-      under_way = inr (later_under_way f c z _ l m (m + 1) (omega arith) refl q);
+      under_way = inr (later_under_way f c z _ _ l m (m + 1) (omega arith) refl refl q);
     }
 
 rest_goes_on : (f : FlowSoFar) (c : Context) (e : SoloEvent) (g h l m : ℕ) → IsEncoding f c → IsUnderWay f c g h l m → GoesOn f g h l m e Nothing (Some c)

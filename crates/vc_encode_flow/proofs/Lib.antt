@@ -1,6 +1,9 @@
 pub mod AllFramesAreTaken
 pub mod BetweenPictures
+pub mod ControlsAreGranted
 pub mod EndsAreDefinedOutput
+pub mod FaultsComeBack
+pub mod FlowsGoOn
 pub mod FramesGoOn
 pub mod GeneratedPicturesAreRaw
 pub mod InputIsCutIntoPictures

@@ -28,7 +28,7 @@ use Rattle.vc_encode_flow.proofs.JobsKeepAFlow.{count_of, job_goes_on, under_way
 
 -- One event more
 
-slot_more : (events : List SoloEvent) (e : SoloEvent) → slot_after (events ++ e ∷ []) ≡ (solo_step the_coder (slot_after events) e).slot
+pub slot_more : (events : List SoloEvent) (e : SoloEvent) → slot_after (events ++ e ∷ []) ≡ (solo_step the_coder (slot_after events) e).slot
 slot_more events e = slot-append None events (e ∷ [])
 
 run_more : (s : Slot) (es : List SoloEvent) (e : SoloEvent) → solo_run the_coder s (es ++ e ∷ []) ≡ solo_run the_coder s es ++ record { event = e; told = (solo_step the_coder (solo_slot the_coder s es) e).told } ∷ []
@@ -98,7 +98,7 @@ pub record IsAsked (start : List SoloEvent) (f : FlowSoFar) (request : Call) (by
   pub reply : (answer (Some flow.context) request bytes found).reply ≡ told
   pub gives : (answer (Some flow.context) request bytes found).bytes ≡ handed
 
-one_call : (events : List SoloEvent) (told : Reply) (e : SoloEvent) → told ≢ Blocked → with_call events told e ≡ events ++ e ∷ []
+pub one_call : (events : List SoloEvent) (told : Reply) (e : SoloEvent) → told ≢ Blocked → with_call events told e ≡ events ++ e ∷ []
 one_call events Blocked e n = absurd (n refl)
 one_call events told e n = refl
 

@@ -17,7 +17,7 @@ use Rattle.vc_model.specs.Solo.{SoloEvent}
 use Rattle.vc_queue.specs.Holds.{HoldState}
 use Rattle.vc_port.specs.Payloads.{slot_after, bytes_out, IsCallOn}
 use Rattle.vc_port.proofs.CallsHandOut.{calls_hand_out}
-use Rattle.vc_encode_flow.specs.Flows.{FlowSoFar, flow_at_open, with_format, with_rates, HasBegun, IsKept, IsFlow}
+use Rattle.vc_encode_flow.specs.Flows.{FlowSoFar, flow_at_open, with_format, with_rates, HasBegun, IsKept, IsFlow, HasNewFlow, IsSettable}
 use Rattle.vc_flow.specs.Calls.{HandedFirst}
 use Rattle.vc_encode_flow.proofs.QuietCallsKeepAFlow.{quiet_flow, is_quiet}
 use Rattle.vc_encode_flow.proofs.OneEventMore.{asked}
@@ -38,6 +38,17 @@ pub control_set : (start : List SoloEvent) (f : FlowSoFar) (old : List SoloEvent
     IsCallOn old before (SetCtrl id value) Done new after → IsFlow start f old → IsFlow start (with_rates f rates) new
 control_set start f old before id value rates new after e b c w =
     control_flow start f id value rates c.handed new e b (asked start f old before (SetCtrl id value) Done new after (λ q. absurd (cc)) c w)
+
+pub control_goes_on : (old : List SoloEvent) (before : HoldState) (id value : ℕ) (new : List SoloEvent) (after : HoldState) → HasNewFlow old →
+    IsSettable id value → IsCallOn old before (SetCtrl id value) Done new after → HasNewFlow new
+control_goes_on old before id value new after w s c =
+    let set = s w.so_far.rates in
+    record {
+      start = w.start;
+      so_far = with_rates w.so_far set.0;
+      begun = record { queued = w.begun.queued; taken = w.begun.taken };
+      flow = control_set w.start w.so_far old before id value set.0 new after set.1 w.begun c w.flow;
+    }
 
 pub buffers_requested : (start : List SoloEvent) (f : FlowSoFar) (old : List SoloEvent) (before : HoldState) (side : Side) (count number : ℕ)
     (new : List SoloEvent) (after : HoldState) → HasBegun f → IsCallOn old before (ReqBufs side count) (Count number) new after →

@@ -21,27 +21,21 @@ use Rattle.vc_model.specs.Context.{Context, Slot, Running, run, fresh_context, i
 use Rattle.vc_model.specs.Answer.{answer, closed_answer, context_answer, with_control, control_answer}
 use Rattle.vc_model.specs.Places.{has_error}
 use Rattle.vc_model.specs.Handed.{handed_by_call}
-use Rattle.vc_model.specs.Solo.{SoloEvent, Called, Claims, Finishes, Answered, solo_step, solo_slot}
+use Rattle.vc_model.specs.Solo.{SoloEvent, Called, Answered, solo_step}
 use Rattle.vc_model.specs.Sound.{HasItsBuffers, IsOrdered}
 use Rattle.vc_laws.proofs.EffectsOfCalls.{CodecAfterFormat, CodecAfterBuffers, settle_is, Effect, effect_of, stays, has_events, has_out_format, has_out_buffers, has_cap_buffers}
 use Rattle.vc_queue.specs.Holds.{HoldState}
-use Rattle.vc_port.specs.Payloads.{slot_after, good_finishes, faulty_finishes, AreOfJobs, IsCallOn}
+use Rattle.vc_port.specs.Payloads.{slot_after, good_finishes, faulty_finishes, IsCallOn}
 use Rattle.vc_port.proofs.CallsHandOut.{slot-append, calls_hand_out}
+use Rattle.vc_flow.proofs.CallsAreGranted.{still_closed}
 use Rattle.vc_flow.proofs.CloseLeavesNothing.{faults_later}
 use Rattle.vc_encode_flow.specs.Frames.{joined}
-use Rattle.vc_encode_flow.specs.Flows.{FlowSoFar, flow_at_open, with_format, with_rates, HasBegun, IsKept, frames_for, state_for, payloads, RunsAt, IsEncoding, IsUnderWay, IsFlow}
+use Rattle.vc_encode_flow.specs.Flows.{FlowSoFar, flow_at_open, with_format, with_rates, HasBegun, IsKept, frames_for, state_for, payloads, AreGood, RunsAt, IsEncoding, IsUnderWay, IsFlow}
 use Rattle.vc_encode_flow.proofs.JobsKeepAFlow.{settled_same}
 use Rattle.vc_encode_flow.proofs.OneEventMore.{IsAsked, call_flow, finishes_more}
 use Rattle.vc_encode_flow.proofs.QuietCallsKeepAFlow.{ordered}
 
 -- Open
-
-jobs_stay_closed : (js : List SoloEvent) → AreOfJobs js → solo_slot the_coder None js ≡ None
-unfolding solo_step
-jobs_stay_closed [] a = refl
-jobs_stay_closed (Called request bytes found ∷ js) a = absurd (false≢true a)
-jobs_stay_closed (Claims ∷ js) a = jobs_stay_closed js a
-jobs_stay_closed (Finishes fault ∷ js) a = jobs_stay_closed js a
 
 open_slot : (found : Bool) → (closed_answer (Open Enc) found).reply ≡ Done → (closed_answer (Open Enc) found).slot ≡ Some (fresh_context Enc)
 unfolding closed_answer
@@ -52,7 +46,7 @@ pub open_flow : (old : List SoloEvent) (before : HoldState) (new : List SoloEven
 unfolding solo_step answer
 open_flow old before new after closed c =
     let e : SoloEvent = Called (Open Enc) [] c.found in
-    let still : slot_after (old ++ c.jobs) ≡ None = slot-append None old c.jobs ∙ (ap (λ (s : Slot). solo_slot the_coder s c.jobs) closed ∙ jobs_stay_closed c.jobs c.of_jobs) in
+    let still = still_closed old c.jobs c.of_jobs closed in
     let told : Answered (closed_answer (Open Enc) c.found).reply (closed_answer (Open Enc) c.found).bytes ≡ Answered Done c.handed = ap (λ (s : Slot). (solo_step the_coder s e).told) (sym still) ∙ c.reply in
     let reply : (closed_answer (Open Enc) c.found).reply ≡ Done = cc in
     let hands = calls_hand_out old new before after (Open Enc) Done c in
@@ -66,7 +60,7 @@ open_flow old before new after closed c =
       context = open_now;
       stands = ap slot_after c.events ∙ (slot-append None (old ++ c.jobs) (e ∷ []) ∙ (ap (λ (s : Slot). (solo_step the_coder s e).slot) still ∙ open_slot c.found reply));
       encodes = record { kind = refl; format = refl; rates = refl; phase = refl; mark = refl; runs = tt };
-      under_way = inl (record { coded = []; codec = refl; waiting = refl; frames = refl; good = refl; counted = omega (arith, good) });
+      under_way = inl (record { coded = []; codec = refl; waiting = refl; frames = refl; good = refl; sources = refl; counted = omega (arith, good) });
       handed = hands.bytes;
       later = omega (arith, bad, again, more);
       goes_on = (c.jobs ++ e ∷ [], c.events ∙ same);
@@ -79,6 +73,7 @@ record IsBlank (c : Context) : Type 0 where
   job : c.out.job ≡ []
   ready : c.out.ready ≡ []
   done : c.cap.done ≡ []
+  sources : AreGood c.out.done
   running : c.running ≡ None
 
 none_first : {A : Type 0} → (xs ys : List A) → [] ≡ xs ++ ys → xs ≡ []
@@ -113,19 +108,21 @@ blank_of f c g h l m o b (inl x) =
       job = job;
       ready = none_both c.out.job c.out.ready (sym waits);
       done = no_payloads c.cap.done frames;
+      sources = x.sources;
       running = not_running c c.running job o.firm.has_buffers;
     }
 blank_of f c g h l m o b (inr x) = not_one_more x.coded x.others x.lost (sym b.queued ∙ x.queued)
 
 -- such a flow over a context that is as blank
-pub blank_under_way : (f : FlowSoFar) (c : Context) (g h l m : ℕ) → HasBegun f → g ≤ h → c.codec ≡ encoder fresh_encoder → c.out.job ≡ [] → c.out.ready ≡ [] → c.cap.done ≡ [] → IsUnderWay f c g h l m
-blank_under_way f c g h l m b n k j r d =
+pub blank_under_way : (f : FlowSoFar) (c : Context) (g h l m : ℕ) → HasBegun f → g ≤ h → c.codec ≡ encoder fresh_encoder → c.out.job ≡ [] → c.out.ready ≡ [] → c.cap.done ≡ [] → AreGood c.out.done → IsUnderWay f c g h l m
+blank_under_way f c g h l m b n k j r d s =
     inl (record {
       coded = [];
       codec = k;
       waiting = b.queued ∙ (ap (λ (q : List Buffer). payloads (q ++ [])) (sym j) ∙ ap (λ (q : List Buffer). payloads (c.out.job ++ q)) (sym r));
       frames = ap (λ (q : List (List ℕ)). q ++ payloads c.cap.done) b.taken ∙ ap payloads d;
       good = ap (λ (q : List Buffer). list_all (λ (z : Buffer). not (has_error z.flags)) q) d;
+      sources = s;
       counted = omega (arith, n);
     })
 
@@ -143,7 +140,7 @@ blank_flow start f g request told handed new y a b d next w k n =
     let same : joined g.taken ≡ joined f.taken = ap joined d.taken ∙ sym (ap joined b.taken) in
     call_flow start f g request [] told handed new y a next w
     (blank_under_way g y (good_finishes start) (good_finishes a.before) (faulty_finishes start) (faulty_finishes a.before) d count k.codec k.job
-    k.ready k.done) (same ∙ (sym (append-nil (joined f.taken)) ∙ ap (λ (l : List ℕ). joined f.taken ++ l) (sym n)))
+    k.ready k.done k.sources) (same ∙ (sym (append-nil (joined f.taken)) ∙ ap (λ (l : List ℕ). joined f.taken ++ l) (sym n)))
 
 -- Formats, buffers and controls
 
@@ -203,7 +200,7 @@ format_flow start f want given handed new kept b a =
     let format : y.formats.out ≡ want = ap (λ (t : Kind). (formats_for t Out c.formats want).out) w.kind ∙ kept in
     blank_flow start f (with_format f want) (SetFmt Out want) (Fmt given) handed new y a b (record { queued = b.queued; taken = b.taken }) there
     (record { kind = w.kind; format = format; rates = w.rates; phase = w.phase; mark = w.mark; runs = w.runs })
-    (record { codec = ap reset k.codec; job = k.job; ready = k.ready; done = k.done; running = k.running }) refl
+    (record { codec = ap reset k.codec; job = k.job; ready = k.ready; done = k.done; sources = k.sources; running = k.running }) refl
 
 pub out_buffers_flow : (start : List SoloEvent) (f : FlowSoFar) (count number : ℕ) (handed : List ℕ) (new : List SoloEvent) → HasBegun f → IsAsked start f (ReqBufs Out count) [] (Count number) handed new → IsFlow start f new
 out_buffers_flow start f count number handed new b a =
@@ -214,7 +211,7 @@ out_buffers_flow start f count number handed new b a =
     let y : Context = record c { out = reqbufs_after c.out count there.0; codec = reset c.codec } in
     blank_flow start f f (ReqBufs Out count) (Count number) handed new y a b b there.1
     (record { kind = w.kind; format = w.format; rates = w.rates; phase = w.phase; mark = w.mark; runs = w.runs })
-    (record { codec = ap reset k.codec; job = refl; ready = refl; done = k.done; running = k.running }) refl
+    (record { codec = ap reset k.codec; job = refl; ready = refl; done = k.done; sources = refl; running = k.running }) refl
 
 pub cap_buffers_flow : (start : List SoloEvent) (f : FlowSoFar) (count number : ℕ) (handed : List ℕ) (new : List SoloEvent) → HasBegun f → IsAsked start f (ReqBufs Cap count) [] (Count number) handed new → IsFlow start f new
 cap_buffers_flow start f count number handed new b a =
@@ -238,6 +235,7 @@ cap_buffers_flow start f count number handed new b a =
       ready = ap (λ (q : QueueState). q.ready) x.out
           ∙ k.ready;
       done = x.done;
+      sources = subst (λ (q : QueueState). AreGood q.done) (sym x.out) k.sources;
       running = x.running ∙ k.running;
     }) refl
 
@@ -263,4 +261,4 @@ control_flow start f id value rates handed new e b a =
       mark = w.mark;
       runs = subst (λ (o : Option Running). RunsAt o rates) (sym k.running) tt;
     })
-    (record { codec = k.codec; job = k.job; ready = k.ready; done = k.done; running = k.running }) refl
+    (record { codec = k.codec; job = k.job; ready = k.ready; done = k.done; sources = k.sources; running = k.running }) refl

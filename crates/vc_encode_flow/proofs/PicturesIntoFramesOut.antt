@@ -1,8 +1,8 @@
--- What queueing a picture and taking a frame do to a flow. A picture that is queued stands at the tail of ready, so it is
+-- What queueing a picture, taking a frame and taking an OUTPUT buffer do to a flow. A picture that is queued stands at the tail of ready, so it is
 -- the last of those that wait. The frame at the front of done is the next one of the flow where it has no ERROR, and with
 -- ERROR it shows that a job failed.
-use Rattle.std.proofs.Common.{ℕ, ◌≡◌, ◌<◌, Bool, true, false, not, Option, Some, None, List, [], ◌∷◌, ◌++◌, refl, sym, ap, ◌∙◌, subst, arith, append_assoc, inl, inr}
-use Rattle.std.specs.List.{list_all}
+use Rattle.std.proofs.Common.{ℕ, ◌≡◌, ◌<◌, Bool, true, false, not, ◌||◌, Option, Some, None, List, [], ◌∷◌, ◌++◌, refl, sym, ap, ◌∙◌, subst, arith, append_assoc, inl, inr}
+use Rattle.std.specs.List.{list_all, list_any}
 use Rattle.std.proofs.lemmas.Bool.{false≢true}
 use Rattle.std.proofs.lemmas.List.{map-append, append-nil}
 use Rattle.std.proofs.lemmas.Grind.{flat_map-append}
@@ -14,18 +14,18 @@ use Rattle.vc_base.specs.declared.Errno.TheVariants.{NoEnt, Again, NoMem, Busy, 
 use Rattle.vc_base.specs.declared.Call.TheVariants.{QBuf, DqBuf}
 use Rattle.vc_base.specs.declared.Reply.TheVariants.{Done, Taken}
 use Rattle.vc_base.specs.Buffers.{Buffer, is_empty, with_index, queued_buffer, queue_held, qbuf_refusal, qbuf_after, refuse_if, dqbuf_refusal, dqbuf_after, take_front}
-use Rattle.vc_model.specs.Context.{Context, PhaseState, run, settle, with_queue, sizeimage}
+use Rattle.vc_model.specs.Context.{Context, Slot, PhaseState, run, settle, with_queue, sizeimage}
 use Rattle.vc_model.specs.Answer.{Answer, answer, answered, unless, unless_or_block, context_answer, is_no_whole_picture, taken_answer, after_taking, stop_at_last, is_ended}
 use Rattle.vc_model.specs.Places.{has_error}
-use Rattle.vc_model.specs.Solo.{SoloEvent, Called}
+use Rattle.vc_model.specs.Solo.{SoloEvent, Called, solo_step}
 use Rattle.vc_model.specs.Sound.{IsOrdered}
 use Rattle.vc_model.proofs.PartsOfTests.{and_left, and_right}
 use Rattle.vc_laws.proofs.EffectsOfCalls.{settle_is, held_there}
-use Rattle.vc_port.specs.Payloads.{good_finishes, faulty_finishes}
+use Rattle.vc_port.specs.Payloads.{slot_after, good_finishes, faulty_finishes}
 use Rattle.vc_encode_flow.specs.Frames.{joined}
-use Rattle.vc_encode_flow.specs.Flows.{FlowSoFar, with_picture, with_frame, payloads, AreGood, IsUnderWay, IsFlow}
+use Rattle.vc_encode_flow.specs.Flows.{FlowSoFar, with_picture, with_frame, payloads, AreGood, HasBad, IsUnderWay, IsFlow, HasBadSource}
 use Rattle.vc_encode_flow.proofs.JobsKeepAFlow.{settled_same}
-use Rattle.vc_encode_flow.proofs.OneEventMore.{IsAsked, call_flow}
+use Rattle.vc_encode_flow.proofs.OneEventMore.{IsAsked, call_flow, slot_more}
 use Rattle.vc_encode_flow.proofs.QuietCallsKeepAFlow.{ordered}
 use Rattle.vc_flow.proofs.CloseLeavesNothing.{faults_later}
 
@@ -74,6 +74,7 @@ queued_under_way f c b index used stamp bytes g h l m s (inl x) =
       waiting = ap (λ (z : List (List ℕ)). z ++ bytes ∷ []) x.waiting ∙ (append_assoc x.coded (payloads (c.out.job ++ c.out.ready)) (bytes ∷ []) ∙ ap (λ (z : List (List ℕ)). x.coded ++ z) (sym waits));
       frames = x.frames;
       good = x.good;
+      sources = x.sources;
       counted = x.counted;
     })
 queued_under_way f c b index used stamp bytes g h l m s (inr x) =
@@ -90,6 +91,7 @@ queued_under_way f c b index used stamp bytes g h l m s (inr x) =
       frames = x.frames;
       good = x.good;
       flag = x.flag;
+      source = x.source;
       counted = x.counted;
     })
 
@@ -172,6 +174,7 @@ whole_under_way f c b rest g h l m d e (inl x) =
       waiting = x.waiting;
       frames = append_assoc f.taken (b.bytes ∷ []) (payloads rest) ∙ (ap (λ (q : List Buffer). f.taken ++ payloads q) (sym d) ∙ x.frames);
       good = good_rest b rest (subst AreGood d x.good);
+      sources = x.sources;
       counted = x.counted;
     })
 whole_under_way f c b rest g h l m d e (inr x) = split x.front refl
@@ -196,13 +199,18 @@ whole_under_way f c b rest g h l m d e (inr x) = split x.front refl
           frames = append_assoc f.taken (b.bytes ∷ []) (payloads zs) ∙ (ap (λ (q : Buffer). f.taken ++ payloads (q ∷ zs)) first ∙ (ap (λ (q : List Buffer). f.taken ++ payloads q) (sym i) ∙ x.frames));
           good = good_rest z zs (subst AreGood i x.good);
           flag = x.flag;
+          source = x.source;
           counted = x.counted;
         })
 
--- one with ERROR shows a fault
+-- one with ERROR shows a fault, and its OUTPUT buffer is done
 fault_shown : (f : FlowSoFar) (c : Context) (b : Buffer) (rest : List Buffer) (g h l m : ℕ) → c.cap.done ≡ b ∷ rest → has_error b.flags ≡ true → IsUnderWay f c g h l m → l < m
 fault_shown f c b rest g h l m d e (inl x) = absurd (good_first b rest (subst AreGood d x.good) e)
 fault_shown f c b rest g h l m d e (inr x) = x.counted
+
+fault_left : (f : FlowSoFar) (c : Context) (b : Buffer) (rest : List Buffer) (g h l m : ℕ) → c.cap.done ≡ b ∷ rest → has_error b.flags ≡ true → IsUnderWay f c g h l m → HasBad c.out.done
+fault_left f c b rest g h l m d e (inl x) = absurd (good_first b rest (subst AreGood d x.good) e)
+fault_left f c b rest g h l m d e (inr x) = x.source
 
 joined_more : (xs : List (List ℕ)) (x : List ℕ) → joined (xs ++ x ∷ []) ≡ joined xs ++ x
 joined_more xs x =
@@ -235,3 +243,116 @@ frame_fault start f block index used flags seq stamp handed new e a =
     let shown = fault_shown f c t.front t.rest (good_finishes start) (good_finishes a.before) (faulty_finishes start) (faulty_finishes a.before) t.there bad a.flow.under_way in
     let same = ap faulty_finishes a.events in
     omega (arith, same, shown, faults_later a.before (Called (DqBuf Cap block) [] a.found ∷ []))
+
+pub fault_source : (start : List SoloEvent) (f : FlowSoFar) (block : Bool) (index used flags seq : ℕ) (stamp : Stamp) (handed : List ℕ)
+    (new : List SoloEvent) → has_error flags ≡ true → IsAsked start f (DqBuf Cap block) [] (Taken index used flags seq stamp) handed new →
+    HasBadSource new
+unfolding solo_step
+fault_source start f block index used flags seq stamp handed new e a =
+    let c = a.flow.context in
+    let w = a.flow.encodes in
+    let t = takes c block [] a.found index used flags seq stamp w.phase w.mark a.reply in
+    let bad : has_error t.front.flags ≡ true = ap has_error t.flags_are ∙ e in
+    let event : SoloEvent = Called (DqBuf Cap block) [] a.found in
+    record {
+      context = record c { cap = take_front c.cap (t.front ∷ t.rest) };
+      stands = ap slot_after a.events ∙ (slot_more a.before event
+          ∙ (ap (λ (s : Slot). (answer s (DqBuf Cap block) [] a.found).slot) a.flow.stands ∙ t.slot));
+      bad = fault_left f c t.front t.rest (good_finishes start) (good_finishes a.before) (faulty_finishes start) (faulty_finishes a.before) t.there bad a.flow.under_way;
+    }
+
+-- Taking an OUTPUT buffer
+
+-- the front of done was taken
+record TakesSource (c : Context) (flags : ℕ) (a : Answer) : Type 0 where
+  front : Buffer
+  rest : List Buffer
+  there : c.out.done ≡ front ∷ rest
+  slot : a.slot ≡ Some (record c { out = take_front c.out (front ∷ rest) })
+  flags_are : front.flags ≡ flags
+
+source_is : (c : Context) (done : List Buffer) (index used flags seq : ℕ) (stamp : Stamp) → c.phase ≡ run → c.mark ≡ None → c.out.done ≡ done → (taken_answer c Out done).reply ≡ Taken index used flags seq stamp → TakesSource c flags (taken_answer c Out done)
+source_is c [] index used flags seq stamp p m d e = absurd (cc)
+source_is c (b ∷ rest) index used flags seq stamp p m d e =
+    let x : Context = with_queue c Out (dqbuf_after c.out) in
+    let y : Context = record c { out = take_front c.out (b ∷ rest) } in
+    let same : x ≡ y = ap (λ (l : List Buffer). with_queue c Out (take_front c.out l)) d in
+    record {
+      front = b;
+      rest = rest;
+      there = d;
+      slot = ap (λ (z : Context). Some (settle z)) same ∙ ap (λ (z : Context). Some z) (settled_same y (settle y) p m (settle_is y));
+      flags_are = cc;
+    }
+
+takes_source : (c : Context) (block : Bool) (bytes : List ℕ) (found : Bool) (index used flags seq : ℕ) (stamp : Stamp) → c.phase ≡ run → c.mark ≡ None →
+    (answer (Some c) (DqBuf Out block) bytes found).reply ≡ Taken index used flags seq stamp →
+    TakesSource c flags (answer (Some c) (DqBuf Out block) bytes found)
+unfolding answer context_answer
+takes_source c block bytes found index used flags seq stamp p m e =
+    let a = taken_answer c Out c.out.done in
+    let is = unblocked c (dqbuf_refusal c.out (is_ended c Out)) block a index used flags seq stamp e in
+    subst (TakesSource c flags) (sym is) (source_is c c.out.done index used flags seq stamp p m refl (ap (λ (z : Answer). z.reply) (sym is) ∙ e))
+
+pub bad_behind : (b : Buffer) (rest : List Buffer) → has_error b.flags ≡ false → HasBad (b ∷ rest) → HasBad rest
+bad_behind b rest e h = ap (λ t. t || list_any (λ (z : Buffer). has_error z.flags) rest) (sym e) ∙ h
+
+-- one without ERROR
+source_under_way : (f : FlowSoFar) (c : Context) (b : Buffer) (rest : List Buffer) (g h l m : ℕ) → c.out.done ≡ b ∷ rest → has_error b.flags ≡ false → IsUnderWay f c g h l m → IsUnderWay f (record c { out = take_front c.out (b ∷ rest) }) g h l m
+source_under_way f c b rest g h l m d e (inl x) =
+    inl (record {
+      coded = x.coded;
+      codec = x.codec;
+      waiting = x.waiting;
+      frames = x.frames;
+      good = x.good;
+      sources = good_rest b rest (subst AreGood d x.sources);
+      counted = x.counted;
+    })
+source_under_way f c b rest g h l m d e (inr x) =
+    inr (record {
+      coded = x.coded;
+      lost = x.lost;
+      others = x.others;
+      queued = x.queued;
+      front = x.front;
+      bad = x.bad;
+      back = x.back;
+      done = x.done;
+      frames = x.frames;
+      good = x.good;
+      flag = x.flag;
+      source = bad_behind b rest e (subst HasBad d x.source);
+      counted = x.counted;
+    })
+
+-- one with ERROR shows a fault
+source_shown : (f : FlowSoFar) (c : Context) (b : Buffer) (rest : List Buffer) (g h l m : ℕ) → c.out.done ≡ b ∷ rest → has_error b.flags ≡ true → IsUnderWay f c g h l m → l < m
+source_shown f c b rest g h l m d e (inl x) = absurd (good_first b rest (subst AreGood d x.sources) e)
+source_shown f c b rest g h l m d e (inr x) = x.counted
+
+pub source_flow : (start : List SoloEvent) (f : FlowSoFar) (block : Bool) (index used flags seq : ℕ) (stamp : Stamp) (handed : List ℕ)
+    (new : List SoloEvent) → has_error flags ≡ false → IsAsked start f (DqBuf Out block) [] (Taken index used flags seq stamp) handed new →
+    IsFlow start f new
+source_flow start f block index used flags seq stamp handed new e a =
+    let c = a.flow.context in
+    let w = a.flow.encodes in
+    let t = takes_source c block [] a.found index used flags seq stamp w.phase w.mark a.reply in
+    let good : has_error t.front.flags ≡ false = ap has_error t.flags_are ∙ e in
+    call_flow start f f (DqBuf Out block) [] (Taken index used flags seq stamp) handed new
+    (record c { out = take_front c.out (t.front ∷ t.rest) }) a t.slot
+    (record { kind = w.kind; format = w.format; rates = w.rates; phase = w.phase; mark = w.mark; runs = w.runs })
+    (source_under_way f c t.front t.rest (good_finishes start) (good_finishes a.before) (faulty_finishes start) (faulty_finishes a.before) t.there good a.flow.under_way)
+    (sym (append-nil (joined f.taken)))
+
+pub source_fault : (start : List SoloEvent) (f : FlowSoFar) (block : Bool) (index used flags seq : ℕ) (stamp : Stamp) (handed : List ℕ)
+    (new : List SoloEvent) → has_error flags ≡ true → IsAsked start f (DqBuf Out block) [] (Taken index used flags seq stamp) handed new →
+    faulty_finishes start < faulty_finishes new
+source_fault start f block index used flags seq stamp handed new e a =
+    let c = a.flow.context in
+    let w = a.flow.encodes in
+    let t = takes_source c block [] a.found index used flags seq stamp w.phase w.mark a.reply in
+    let bad : has_error t.front.flags ≡ true = ap has_error t.flags_are ∙ e in
+    let shown = source_shown f c t.front t.rest (good_finishes start) (good_finishes a.before) (faulty_finishes start) (faulty_finishes a.before) t.there bad a.flow.under_way in
+    let same = ap faulty_finishes a.events in
+    omega (arith, same, shown, faults_later a.before (Called (DqBuf Out block) [] a.found ∷ []))

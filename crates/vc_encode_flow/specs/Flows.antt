@@ -1,6 +1,6 @@
 -- What a flow of pictures through one encoder did so far, and what the events of its slot have of it.
 use Rattle.std.specs.Prelude.{ℕ, ◌≡◌, ◌⊎◌, ◌+◌, ◌≤◌, ◌<◌, true, not, map, length, Option, Some, None, List, [], ◌∷◌, ◌++◌}
-use Rattle.std.specs.List.{list_all}
+use Rattle.std.specs.List.{list_all, list_any}
 use Rattle.vc_base.specs.declared.Format.{Format}
 use Rattle.vc_base.specs.declared.Side.TheVariants.{Out}
 use Rattle.vc_base.specs.declared.Kind.TheVariants.{Enc}
@@ -8,6 +8,7 @@ use Rattle.vc_base.specs.Buffers.{Buffer}
 use Rattle.vc_defs.specs.Encoder.{RunRates, EncoderState, fresh_encoder}
 use Rattle.vc_defs.specs.Outputs.{default_rates}
 use Rattle.vc_defs.specs.Raw.{yu12}
+use Rattle.vc_model.specs.Answer.{with_control}
 use Rattle.vc_model.specs.Formats.{raw_format, formats_at_open, formats_for}
 use Rattle.vc_model.specs.Coder.{encoder}
 use Rattle.vc_model.specs.Context.{Context, Running, run}
@@ -44,6 +45,10 @@ payloads bs = map (λ (b : Buffer). b.bytes) bs
 abbrev pub AreGood : List Buffer → Type 0
 AreGood bs = list_all (λ b. not (has_error b.flags)) bs ≡ true
 
+-- a buffer of the list has it
+abbrev pub HasBad : List Buffer → Type 0
+HasBad bs = list_any (λ b. has_error b.flags) bs ≡ true
+
 -- the job that runs, if one does, was claimed with these rates
 abbrev pub RunsAt : Option Running → RunRates → Type 0
 RunsAt None rates = Unit {0}
@@ -59,17 +64,18 @@ pub record IsEncoding (f : FlowSoFar) (c : Context) : Type 0 where
   pub runs : RunsAt c.running f.rates
 
 -- The first pictures were encoded, and the others wait for a run. The frames of the former were handed out or are done.
--- Each of them was a finish without a fault.
+-- Each of them was a finish without a fault, and no OUTPUT buffer that is done has the flag ERROR.
 pub record HasFrames (f : FlowSoFar) (c : Context) (before now : ℕ) : Type 0 where
   pub coded : List (List ℕ)
   pub codec : c.codec ≡ encoder (state_for f coded)
   pub waiting : f.queued ≡ coded ++ payloads (c.out.job ++ c.out.ready)
   pub frames : f.taken ++ payloads c.cap.done ≡ frames_for f coded
   pub good : AreGood c.cap.done
+  pub sources : AreGood c.out.done
   pub counted : before + length coded ≤ now
 
--- A job was finished with a fault, and its picture is lost. Its buffer, with the flag ERROR, is done. The frames before it,
--- handed out or done, are those of the pictures before the lost one.
+-- A job was finished with a fault, and its picture is lost. Its buffers, with the flag ERROR, are done in both queues. The
+-- frames before it, handed out or done, are those of the pictures before the lost one.
 pub record HasFault (f : FlowSoFar) (c : Context) (before now : ℕ) : Type 0 where
   pub coded : List (List ℕ)
   pub lost : List ℕ
@@ -82,6 +88,7 @@ pub record HasFault (f : FlowSoFar) (c : Context) (before now : ℕ) : Type 0 wh
   pub frames : f.taken ++ payloads front ≡ frames_for f coded
   pub good : AreGood front
   pub flag : has_error bad.flags ≡ true
+  pub source : HasBad c.out.done
   pub counted : before < now
 
 -- one of the two
@@ -99,6 +106,30 @@ pub record IsFlow (start : List SoloEvent) (f : FlowSoFar) (events : List SoloEv
   pub later : faulty_finishes start ≤ faulty_finishes events
   pub goes_on : GoesOn start events
 
+-- no picture was queued, and no frame was handed out
+pub record HasBegun (f : FlowSoFar) : Type 0 where
+  pub queued : f.queued ≡ []
+  pub taken : f.taken ≡ []
+
+-- a flow goes on at the slot, whatever it did so far
+pub record HasFlow (events : List SoloEvent) : Type 0 where
+  pub start : List SoloEvent
+  pub so_far : FlowSoFar
+  pub flow : IsFlow start so_far events
+
+-- one that has only begun
+pub record HasNewFlow (events : List SoloEvent) : Type 0 where
+  pub start : List SoloEvent
+  pub so_far : FlowSoFar
+  pub begun : HasBegun so_far
+  pub flow : IsFlow start so_far events
+
+-- An OUTPUT buffer with the flag ERROR is done, and can be taken.
+pub record HasBadSource (events : List SoloEvent) : Type 0 where
+  pub context : Context
+  pub stands : slot_after events ≡ Some context
+  pub bad : HasBad context.out.done
+
 -- the flow of a slot that was just opened
 abbrev pub flow_at_open : FlowSoFar
 flow_at_open =
@@ -110,14 +141,13 @@ with_format f format = record f { format = format }
 abbrev pub with_rates : FlowSoFar → RunRates → FlowSoFar
 with_rates f rates = record f { rates = rates }
 
--- no picture was queued, and no frame was handed out
-pub record HasBegun (f : FlowSoFar) : Type 0 where
-  pub queued : f.queued ≡ []
-  pub taken : f.taken ≡ []
-
 -- the device sets the format as it is asked for: it is a raw format with a size that its pictures can have
 abbrev pub IsKept : Format → Type 0
 IsKept format = (formats_for Enc Out (formats_at_open Enc) format).out ≡ format
+
+-- whatever the rates are, an encoder takes this value of the control
+abbrev pub IsSettable : ℕ → ℕ → Type 0
+IsSettable id value = (rates : RunRates) → (set : RunRates) × (with_control Enc rates id value ≡ Some set)
 
 -- the rates of these controls
 abbrev pub rates_of : ℕ → ℕ → ℕ → RunRates

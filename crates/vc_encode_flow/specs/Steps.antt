@@ -1,11 +1,19 @@
 -- Where a flow is between its steps, and where it is when it stops early.
-use Rattle.std.specs.Prelude.{ℕ, ◌≡◌, ◌≤◌, take, length, Option, Some, None, List, [], ◌∷◌, ◌++◌}
-use Rattle.std.specs.Io.KnownBytes.{Appends}
+use Rattle.std.specs.Prelude.{ℕ, ◌≡◌, ◌+◌, ◌<◌, ◌≤◌, take, length, Option, Some, None, List, [], ◌∷◌, ◌++◌}
+use Rattle.std.specs.Io.KnownBytes.{Appends, Consumes}
 use Rattle.vc_model.specs.Solo.{SoloEvent}
 use Rattle.vc_flow.specs.Buffers.{HasBytes}
 use Rattle.vc_encode_flow.specs.Frames.{joined}
 use Rattle.vc_encode_flow.specs.Flows.{FlowSoFar, frames_for, IsFlow}
 use Rattle.vc_flow.specs.Calls.{HandedFirst}
+
+-- fewer bytes were read than there is room for
+abbrev pub ReadsBelow : ℕ → Option (List ℕ) → Option (List ℕ) → Type 0
+ReadsBelow room left left_now = (bytes : List ℕ) × (length bytes < room) × Consumes left left_now bytes
+
+-- or as many, and less than `more` beyond them
+abbrev pub ReadsBeyond : ℕ → ℕ → Option (List ℕ) → Option (List ℕ) → Type 0
+ReadsBeyond room more left left_now = (bytes : List ℕ) × (room ≤ length bytes) × (length bytes < room + more) × Consumes left left_now bytes
 
 -- all frames that were handed out were written
 pub record IsAt (start : List SoloEvent) (f : FlowSoFar) (first written : Option (List ℕ)) (events : List SoloEvent) : Type 0 where

@@ -1,15 +1,16 @@
 //! Takes the frames of a flow, and writes them.
 
-ghost use Rattle.std.specs.Prelude.{◌≡◌, ◌⊎◌, ◌≢◌, ◌≤◌, IfOk, IfErr, IsErrOf};
+ghost use Rattle.std.specs.Prelude.{◌≡◌, ◌≢◌, ◌≤◌, IfOk, OnOk, IfErr, IsErrOf};
 ghost use Rattle.vc_base.specs.declared.Side.TheVariants.{Cap};
 ghost use Rattle.vc_base.specs.Counts.{Rose};
 ghost use Rattle.vc_queue.specs.Holds.{held_payload};
 ghost use Rattle.vc_flow.specs.Buffers.{IsThere};
 ghost use Rattle.vc_flow.specs.Calls.{KeepsHanded};
 ghost use Rattle.vc_flow.specs.Faults.{GoesOn, ShowsFault};
+ghost use Rattle.vc_encode_flow.specs.Flows.{HasFlow, HasBadSource};
 ghost use Rattle.vc_encode_flow.specs.Promises.{TellsFault, TakesFrame, WritesFrames, LeavesPrefix, WritingTellsFault};
 
-use crate::opening::{BUFFERS, queue_capture};
+use crate::opening::queue_capture;
 use std::sync::Wait;
 use vc_base::{Call, Reply, Side};
 use vc_flow::{Stop, is_failed, write_taken};
@@ -24,36 +25,35 @@ pub(crate) struct Frame {
     pub used: u32,
 }
 
-/// Takes OUTPUT buffers until one with ERROR comes back, which shows that an engine failed.
-fn find_fault<R: Wait, P: PayloadPort>(rt: &R, port: &mut P) -> Stop
+/// Takes OUTPUT buffers until the one with ERROR comes back, which shows that an engine failed.
+fn take_fault<R: Wait, P: PayloadPort>(rt: &R, port: &mut P)
     requires ready { P.ready port.old }
+    requires bad { HasBadSource (P.events port.old) }
     ensures ready { P.ready port.new }
     ensures follows { P.follows port.old port.new }
-    ensures shows { result ≡ Stop.EngineFault → ShowsFault (P.events port.old) (P.events port.new) }
+    ensures shows { ShowsFault (P.events port.old) (P.events port.new) }
     ensures goes_on { GoesOn (P.events port.old) (P.events port.new) }
     ensures hands { KeepsHanded (P.events port.old) (P.events port.new) }
-    ensures stops { (result ≡ Stop.EngineFault) ⊎ (result ≡ Stop.NoMemory) }
 {
     let call = Call::DqBuf {
         side: Side::Out,
         block: true,
     };
-    for _source in 0..BUFFERS {
-        match wait_on(rt, port, &call) {
-            Reply::Taken { flags, .. } => {
-                if is_failed(flags) {
-                    return Stop::EngineFault;
-                }
-            }
-            _ => return Stop::NoMemory,
+    for _ in rt.forever() {
+        let Reply::Taken { flags, .. } = wait_on(rt, port, &call) else {
+            unreachable!();
+        };
+        if is_failed(flags) {
+            return;
         }
     }
-    Stop::NoMemory
+    unreachable!()
 }
 
 /// Waits for a frame and takes it. Where it has ERROR, the OUTPUT buffer of its picture is taken too, which shows the fault.
 pub(crate) fn take_frame<R: Wait, P: PayloadPort>(rt: &R, port: &mut P) -> Result<Frame, Stop>
     requires ready { P.ready port.old }
+    requires flow { HasFlow (P.events port.old) }
     ensures ready { P.ready port.new }
     ensures follows { P.follows port.old port.new }
     ensures there { IfOk result (λ frame. IsThere (held_payload (P.hold port.new) Cap frame.index) frame.used) }
@@ -74,7 +74,8 @@ pub(crate) fn take_frame<R: Wait, P: PayloadPort>(rt: &R, port: &mut P) -> Resul
             ..
         } => {
             if is_failed(flags) {
-                Err(find_fault(rt, port))
+                take_fault(rt, port);
+                Err(Stop::EngineFault)
             } else {
                 Ok(Frame { index, used })
             }
@@ -90,12 +91,15 @@ pub(crate) fn collect<R: Wait, P: PayloadPort, K: Sink>(
     sink: &mut K,
 ) -> Result<(), Stop>
     requires ready { P.ready port.old }
+    requires flow { HasFlow (P.events port.old) }
     ensures ready { P.ready port.new }
     ensures follows { P.follows port.old port.new }
+    ensures flow { OnOk result (HasFlow (P.events port.new)) }
     ensures taken { WritesFrames 1 result (K.written sink.old) (K.written sink.new) (P.events port.old) (P.events port.new) }
     ensures stopped { LeavesPrefix result (K.written sink.old) (K.written sink.new) (P.events port.old) (P.events port.new) }
     ensures engine { TellsFault result (P.events port.old) (P.events port.new) }
     ensures later { K.faults sink.old ≤ K.faults sink.new }
+    ensures quiet { OnOk result (K.faults sink.new ≡ K.faults sink.old) }
     ensures write { IsErrOf result Stop.WriteFault → Rose (K.faults sink.old) (K.faults sink.new) }
     ensures stops { IfErr result (λ stop. (stop ≢ Stop.ReadFault) × (stop ≢ Stop.TooLong)) }
 {
@@ -115,12 +119,15 @@ pub(crate) fn collect_all<R: Wait, P: PayloadPort, K: Sink>(
     count: u32,
 ) -> Result<(), Stop>
     requires ready { P.ready port.old }
+    requires flow { HasFlow (P.events port.old) }
     ensures ready { P.ready port.new }
     ensures follows { P.follows port.old port.new }
+    ensures flow { OnOk result (HasFlow (P.events port.new)) }
     ensures taken { WritesFrames count result (K.written sink.old) (K.written sink.new) (P.events port.old) (P.events port.new) }
     ensures stopped { LeavesPrefix result (K.written sink.old) (K.written sink.new) (P.events port.old) (P.events port.new) }
     ensures engine { WritingTellsFault result (K.written sink.old) (P.events port.old) (P.events port.new) }
     ensures later { K.faults sink.old ≤ K.faults sink.new }
+    ensures quiet { OnOk result (K.faults sink.new ≡ K.faults sink.old) }
     ensures write { IsErrOf result Stop.WriteFault → Rose (K.faults sink.old) (K.faults sink.new) }
     ensures stops { IfErr result (λ stop. (stop ≢ Stop.ReadFault) × (stop ≢ Stop.TooLong)) }
 {

@@ -1,12 +1,12 @@
 //! The flow: raw pictures in, frames out.
 
-ghost use Rattle.std.specs.Prelude.{◌≡◌, ◌≢◌, ◌<◌, ◌≤◌, ◌^◌, true, false, None, length, Ok, Err, IfErr, IsErrOf};
+ghost use Rattle.std.specs.Prelude.{◌≡◌, ◌≢◌, ◌<◌, ◌≤◌, ◌^◌, true, false, None, length, Ok, Err, OnOk, IfErr, IsErrOf};
 ghost use Rattle.vc_base.specs.Counts.{Rose};
 ghost use Rattle.vc_defs.specs.Laws.{AreRates};
 ghost use Rattle.vc_port.specs.Payloads.{slot_after, faulty_finishes};
-ghost use Rattle.vc_encode_flow.specs.Flows.{IsKept, rates_of};
+ghost use Rattle.vc_encode_flow.specs.Flows.{IsKept, rates_of, HasFlow};
 ghost use Rattle.vc_flow.specs.Faults.{HasFailed, ShowsFault};
-ghost use Rattle.vc_flow.specs.Inputs.{IsLong};
+ghost use Rattle.vc_flow.specs.Inputs.{IsLong, IsBelow, IsJustLong};
 ghost use Rattle.vc_encode_flow.specs.Promises.{WritesFrames, LeavesPrefix, WritingTellsFault, ComesThrough, BreaksOff, BreakingOffTellsFault, RunsThrough, RunIsCutShort, Encodes, EncodesPrefix};
 
 use crate::collecting::{collect, collect_all};
@@ -29,13 +29,16 @@ fn next_source<R: Wait, P: PayloadPort, K: Sink>(
     number: u64,
 ) -> Result<u32, Stop>
     requires ready { P.ready port.old }
+    requires flow { HasFlow (P.events port.old) }
     ensures ready { P.ready port.new }
     ensures follows { P.follows port.old port.new }
+    ensures flow { OnOk result (HasFlow (P.events port.new)) }
     ensures first { number < 4 → WritesFrames 0 result (K.written sink.old) (K.written sink.new) (P.events port.old) (P.events port.new) }
     ensures later_on { 4 ≤ number → WritesFrames 1 result (K.written sink.old) (K.written sink.new) (P.events port.old) (P.events port.new) }
     ensures stopped { LeavesPrefix result (K.written sink.old) (K.written sink.new) (P.events port.old) (P.events port.new) }
     ensures engine { WritingTellsFault result (K.written sink.old) (P.events port.old) (P.events port.new) }
     ensures later { K.faults sink.old ≤ K.faults sink.new }
+    ensures quiet { OnOk result (K.faults sink.new ≡ K.faults sink.old) }
     ensures write { IsErrOf result Stop.WriteFault → Rose (K.faults sink.old) (K.faults sink.new) }
     ensures stops { IfErr result (λ stop. (stop ≢ Stop.ReadFault) × (stop ≢ Stop.TooLong)) }
 {
@@ -57,22 +60,27 @@ fn encode_pictures<R: Wait, P: PayloadPort, S: Source, K: Sink>(
     picture: &mut [u8],
 ) -> Result<bool, Stop>
     requires ready { P.ready port.old }
+    requires flow { HasFlow (P.events port.old) }
     requires size { 0 < length picture.old }
     requires short { length picture.old < 2 ^ 32 }
     ensures ready { P.ready port.new }
     ensures follows { P.follows port.old port.new }
     ensures through { ComesThrough (length picture.old) result K.written sink.old sink.new S.left source.old source.new P.events port.old port.new }
     ensures stopped { BreaksOff (length picture.old) result K.written sink.old sink.new (S.left source.old) P.events port.old port.new }
-    ensures long { IsErrOf result Stop.TooLong → IsLong (S.left source.old) (S.left source.new) }
+    ensures long { IsErrOf result Stop.TooLong → IsJustLong (length picture.old) (S.left source.old) (S.left source.new) }
+    ensures below { result ≢ Err Stop.TooLong → IsBelow (S.left source.old) (S.left source.new) }
     ensures engine { BreakingOffTellsFault result (K.written sink.old) (P.events port.old) (P.events port.new) }
     ensures source_later { S.faults source.old ≤ S.faults source.new }
     ensures sink_later { K.faults sink.old ≤ K.faults sink.new }
+    ensures source_quiet { OnOk result (S.faults source.new ≡ S.faults source.old) }
+    ensures sink_quiet { OnOk result (K.faults sink.new ≡ K.faults sink.old) }
     ensures read { IsErrOf result Stop.ReadFault → Rose (S.faults source.old) (S.faults source.new) }
     ensures write { IsErrOf result Stop.WriteFault → Rose (K.faults sink.old) (K.faults sink.new) }
 {
-    let most = MOST_INPUT / picture.len() as u64 + 1;
-    for number in 0..most {
-        let count = read_picture(source, picture)?;
+    let mut total = 0;
+    for number in 0..MOST_INPUT {
+        let count = read_picture(source, picture, MOST_INPUT - total)?;
+        total += count as u64;
         if count < picture.len() {
             collect_all(rt, port, sink, number.min(u64::from(BUFFERS)) as u32)?;
             return Ok(count == 0);
@@ -80,7 +88,8 @@ fn encode_pictures<R: Wait, P: PayloadPort, S: Source, K: Sink>(
         let index = next_source(rt, port, sink, number)?;
         feed(port, index, picture)?;
     }
-    Err(Stop::TooLong)
+    // Each picture has a byte, so a picture more would be too long before.
+    unreachable!()
 }
 
 /// Opens the slot, and lets all pictures of the input go through it.
@@ -101,10 +110,13 @@ fn run_flow<R: Wait, P: PayloadPort, S: Source, K: Sink>(
     ensures follows { P.follows port.old port.new }
     ensures through { RunsThrough format.now rates.now.gop rates.now.iqp rates.now.pqp result K.written sink.old sink.new S.left source.old source.new P.events port.old port.new }
     ensures stopped { RunIsCutShort format.now rates.now.gop rates.now.iqp rates.now.pqp result K.written sink.old sink.new (S.left source.old) P.events port.old port.new }
-    ensures long { IsErrOf result Stop.TooLong → IsLong (S.left source.old) (S.left source.new) }
+    ensures long { IsErrOf result Stop.TooLong → IsJustLong format.now.size (S.left source.old) (S.left source.new) }
+    ensures below { result ≢ Err Stop.TooLong → IsBelow (S.left source.old) (S.left source.new) }
     ensures engine { IsErrOf result Stop.EngineFault → HasFailed (P.events port.old) (P.events port.new) }
     ensures source_later { S.faults source.old ≤ S.faults source.new }
     ensures sink_later { K.faults sink.old ≤ K.faults sink.new }
+    ensures source_quiet { OnOk result (S.faults source.new ≡ S.faults source.old) }
+    ensures sink_quiet { OnOk result (K.faults sink.new ≡ K.faults sink.old) }
     ensures read { IsErrOf result Stop.ReadFault → Rose (S.faults source.old) (S.faults source.new) }
     ensures write { IsErrOf result Stop.WriteFault → Rose (K.faults sink.old) (K.faults sink.new) }
 {
@@ -123,6 +135,7 @@ fn end_of(ended: Result<bool, Stop>) -> FlowEnd
     ensures write { result ≡ FlowEnd.WriteFault → ended ≡ Err Stop.WriteFault }
     ensures engine { result ≡ FlowEnd.EngineFault → ended ≡ Err Stop.EngineFault }
     ensures long { result ≡ FlowEnd.TooLong → ended ≡ Err Stop.TooLong }
+    ensures too_long { ended ≡ Err Stop.TooLong → result ≡ FlowEnd.TooLong }
     ensures undamaged { result ≢ FlowEnd.Damaged }
 {
     match ended {
@@ -164,11 +177,15 @@ pub fn encode_on<R: Wait, P: PayloadPort, S: Source, K: Sink>(
     ensures front { EncodesPrefix format.now rates.now.gop rates.now.iqp rates.now.pqp (S.left source.old) K.written sink.old sink.new P.events port.old port.new }
     ensures source_later { S.faults source.old ≤ S.faults source.new }
     ensures sink_later { K.faults sink.old ≤ K.faults sink.new }
+    ensures whole_quiet { result ≡ FlowEnd.Whole → (S.faults source.new ≡ S.faults source.old) × (K.faults sink.new ≡ K.faults sink.old) }
+    ensures short_quiet { result ≡ FlowEnd.ShortRaw → (S.faults source.new ≡ S.faults source.old) × (K.faults sink.new ≡ K.faults sink.old) }
     ensures read { result ≡ FlowEnd.ReadFault → Rose (S.faults source.old) (S.faults source.new) }
     ensures write { result ≡ FlowEnd.WriteFault → Rose (K.faults sink.old) (K.faults sink.new) }
     ensures engine { result ≡ FlowEnd.EngineFault → faulty_finishes (P.events port.old) < faulty_finishes (P.events port.new) }
     ensures shown { result ≡ FlowEnd.EngineFault → ShowsFault (P.events port.old) (P.events port.new) }
     ensures long { result ≡ FlowEnd.TooLong → IsLong (S.left source.old) (S.left source.new) }
+    ensures most { result ≡ FlowEnd.TooLong → IsJustLong format.now.size (S.left source.old) (S.left source.new) }
+    ensures below { result ≢ FlowEnd.TooLong → IsBelow (S.left source.old) (S.left source.new) }
     ensures undamaged { result ≢ FlowEnd.Damaged }
 {
     let ended = run_flow(rt, alloc, port, source, sink, format, rates);

@@ -4,14 +4,14 @@ ghost use Rattle.std.specs.Prelude.{◌≡◌, None, OnOk, IfErr};
 ghost use Rattle.vc_defs.specs.Laws.{AreRates};
 ghost use Rattle.vc_defs.specs.Outputs.{default_rates};
 ghost use Rattle.vc_port.specs.Payloads.{slot_after};
-ghost use Rattle.vc_encode_flow.specs.Flows.{flow_at_open, flow_of, with_format, with_rates, IsKept, IsFlow, rates_of};
+ghost use Rattle.vc_encode_flow.specs.Flows.{flow_at_open, flow_of, with_format, with_rates, IsKept, IsFlow, HasNewFlow, IsSettable, rates_of};
 ghost use Rattle.vc_flow.specs.Calls.{KeepsHanded};
 ghost use Rattle.vc_encode_flow.specs.Promises.{FlowMoves, NewFlowMoves, SetsControl};
 
 use vc_base::limits::{GOP_CONTROL, IQP_CONTROL, PQP_CONTROL};
 use vc_base::{Call, Format, Kind, Side, Stamp};
 use vc_core::Rates;
-use vc_flow::{Stop, call_done};
+use vc_flow::{Stop, call_done, call_granted};
 use vc_port::PayloadPort;
 
 /// The buffers of each queue.
@@ -26,7 +26,7 @@ fn open_slot<P: PayloadPort>(port: &mut P) -> Result<(), Stop>
     ensures hands { KeepsHanded (P.events port.old) (P.events port.new) }
     ensures memory { IfErr result (λ stop. stop ≡ Stop.NoMemory) }
 {
-    call_done(port, &Call::Open { kind: Kind::Enc })
+    call_granted(port, &Call::Open { kind: Kind::Enc })
 }
 
 fn set_format<P: PayloadPort>(port: &mut P, format: &Format) -> Result<(), Stop>
@@ -43,13 +43,16 @@ fn set_format<P: PayloadPort>(port: &mut P, format: &Format) -> Result<(), Stop>
 
 fn set_control<P: PayloadPort>(port: &mut P, id: u32, value: u32) -> Result<(), Stop>
     requires ready { P.ready port.old }
+    requires flow { HasNewFlow (P.events port.old) }
+    requires settable { IsSettable id value }
     ensures ready { P.ready port.new }
     ensures follows { P.follows port.old port.new }
+    ensures goes_on { OnOk result (HasNewFlow (P.events port.new)) }
     ensures flow { SetsControl id value result (P.events port.old) (P.events port.new) }
     ensures hands { KeepsHanded (P.events port.old) (P.events port.new) }
     ensures memory { IfErr result (λ stop. stop ≡ Stop.NoMemory) }
 {
-    call_done(port, &Call::SetCtrl { id, value })
+    call_granted(port, &Call::SetCtrl { id, value })
 }
 
 fn request_buffers<P: PayloadPort>(port: &mut P, side: Side) -> Result<(), Stop>
@@ -109,6 +112,7 @@ fn queue_captures<P: PayloadPort>(port: &mut P) -> Result<(), Stop>
 
 fn set_rates<P: PayloadPort>(port: &mut P, rates: &Rates) -> Result<(), Stop>
     requires ready { P.ready port.old }
+    requires flow { HasNewFlow (P.events port.old) }
     requires rates { AreRates (rates_of rates.now.gop rates.now.iqp rates.now.pqp) }
     ensures ready { P.ready port.new }
     ensures follows { P.follows port.old port.new }

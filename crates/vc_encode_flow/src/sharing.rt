@@ -5,7 +5,7 @@ ghost use Rattle.vc_defs.specs.Laws.{IsRawFormat};
 ghost use Rattle.vc_defs.specs.Outputs.{fold_of};
 ghost use Rattle.vc_port.specs.Payloads.{slot_after, bytes_out, good_finishes, faulty_finishes};
 ghost use Rattle.vc_flow.specs.Faults.{HasFailed, ShowsFault};
-ghost use Rattle.vc_encode_flow.specs.Flows.{IsKept};
+ghost use Rattle.vc_encode_flow.specs.Flows.{IsKept, HasFlow};
 ghost use Rattle.vc_encode_flow.specs.Shares.{generated_bytes, IsSharing};
 ghost use Rattle.vc_encode_flow.specs.Promises.{TalliesNext, TallyingTellsFault, SharesAll, SharingTellsFault};
 
@@ -28,9 +28,11 @@ fn next_source<R: Wait, P: PayloadPort>(
     at: u32,
 ) -> Result<u32, Stop>
     requires ready { P.ready port.old }
+    requires flow { HasFlow (P.events port.old) }
     requires room { tally.old.bytes < 2 ^ 63 }
     ensures ready { P.ready port.new }
     ensures follows { P.follows port.old port.new }
+    ensures flow { OnOk result (HasFlow (P.events port.new)) }
     ensures shares { TalliesNext at result tally.old tally.new (P.events port.old) (P.events port.new) }
     ensures engine { TallyingTellsFault result tally.old (P.events port.old) (P.events port.new) }
     ensures bound { tally.new.bytes ≤ tally.old.bytes + 2 ^ 32 }
@@ -54,6 +56,7 @@ fn share_pictures<R: Wait, P: PayloadPort>(
     number: u32,
 ) -> Result<Tally, Stop>
     requires ready { P.ready port.old }
+    requires flow { HasFlow (P.events port.old) }
     requires raw { IsRawFormat format.now }
     requires size { length picture.old ≡ format.now.size }
     requires pictures { pictures ≤ 1000 }

@@ -1,9 +1,10 @@
 //! Takes the frames of a flow, and counts and folds their bytes.
 
-ghost use Rattle.std.specs.Prelude.{◌≡◌, ◌<◌, ◌≤◌, ◌+◌, ◌*◌, ◌^◌, ℕ, List, [], ◌++◌, length};
+ghost use Rattle.std.specs.Prelude.{◌≡◌, ◌<◌, ◌≤◌, ◌+◌, ◌*◌, ◌^◌, ℕ, List, [], ◌++◌, length, OnOk};
 ghost use Rattle.vc_base.specs.declared.Side.TheVariants.{Cap};
 ghost use Rattle.vc_queue.specs.Holds.{held_payload};
 ghost use Rattle.vc_flow.specs.Buffers.{IsThere};
+ghost use Rattle.vc_encode_flow.specs.Flows.{HasFlow};
 ghost use Rattle.vc_encode_flow.specs.Tallies.{tally_of, folded};
 ghost use Rattle.vc_encode_flow.specs.Promises.{TalliesUsed, TalliesFrames, TallyingTellsFault};
 
@@ -72,9 +73,11 @@ pub(crate) fn tally_frame<R: Wait, P: PayloadPort>(
     tally: &mut Tally,
 ) -> Result<(), Stop>
     requires ready { P.ready port.old }
+    requires flow { HasFlow (P.events port.old) }
     requires room { tally.old.bytes < 2 ^ 63 }
     ensures ready { P.ready port.new }
     ensures follows { P.follows port.old port.new }
+    ensures flow { OnOk result (HasFlow (P.events port.new)) }
     ensures shares { TalliesFrames 1 result tally.old tally.new (P.events port.old) (P.events port.new) }
     ensures engine { TallyingTellsFault result tally.old (P.events port.old) (P.events port.new) }
     ensures bound { tally.new.bytes ≤ tally.old.bytes + 2 ^ 32 }
@@ -95,6 +98,7 @@ pub(crate) fn tally_frames<R: Wait, P: PayloadPort>(
     count: u32,
 ) -> Result<(), Stop>
     requires ready { P.ready port.old }
+    requires flow { HasFlow (P.events port.old) }
     requires room { tally.old.bytes + count * 2 ^ 32 < 2 ^ 63 }
     ensures ready { P.ready port.new }
     ensures follows { P.follows port.old port.new }

@@ -1,13 +1,14 @@
 -- What the calls of a flow do, and what they leave.
-use Rattle.std.specs.Prelude.{ℕ, ◌≡◌, length, List, ◌++◌}
+use Rattle.std.specs.Prelude.{ℕ, ◌≡◌, ◌⊎◌, length, List, ◌++◌}
 use Rattle.vc_base.specs.declared.Side.{Side}
 use Rattle.vc_base.specs.declared.Side.TheVariants.{Out}
 use Rattle.vc_base.specs.declared.Format.{Format}
 use Rattle.vc_base.specs.declared.Stamp.{Stamp}
 use Rattle.vc_base.specs.declared.Call.{Call}
 use Rattle.vc_base.specs.declared.Call.TheVariants.{SetFmt, ReqBufs, QBuf}
+use Rattle.vc_base.specs.declared.Errno.TheVariants.{NoMem}
 use Rattle.vc_base.specs.declared.Reply.{Reply}
-use Rattle.vc_base.specs.declared.Reply.TheVariants.{Done, Fmt, Count}
+use Rattle.vc_base.specs.declared.Reply.TheVariants.{Done, Fmt, Count, Refused}
 use Rattle.vc_model.specs.Solo.{SoloEvent}
 use Rattle.vc_queue.specs.Holds.{HoldState}
 use Rattle.vc_queue.specs.Answers.{queued_bytes}
@@ -16,6 +17,15 @@ use Rattle.vc_port.specs.Payloads.{bytes_out, IsCallOn}
 -- the call was made, whatever it was answered
 abbrev pub IsMade : List SoloEvent → HoldState → Call → List SoloEvent → HoldState → Type 0
 IsMade old before request new after = (told : Reply) × IsCallOn old before request told new after
+
+-- the call was refused for want of memory
+abbrev pub LacksMemory : List SoloEvent → HoldState → Call → List SoloEvent → HoldState → Type 0
+LacksMemory old before request new after = IsCallOn old before request (Refused NoMem) new after
+
+-- whatever happens to the slot before the call, it is done, or refused for want of memory
+abbrev pub IsGranted : List SoloEvent → HoldState → Call → Type 0
+IsGranted old before request =
+    (told : Reply) (new : List SoloEvent) (after : HoldState) → IsCallOn old before request told new after → (told ≡ Done) ⊎ (told ≡ Refused NoMem)
 
 -- a format of OUTPUT was asked for, and one was given
 abbrev pub SetsFormat : List SoloEvent → HoldState → Format → List SoloEvent → HoldState → Type 0

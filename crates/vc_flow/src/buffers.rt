@@ -69,6 +69,7 @@ pub fn write_taken<P: PayloadPort, K: Sink>(
     ensures whole { WritesUsed result (held_payload (P.hold port.now) Cap index) used (K.written sink.old) (K.written sink.new) }
     ensures front { WritesPrefix result (held_payload (P.hold port.now) Cap index) used (K.written sink.old) (K.written sink.new) }
     ensures later { K.faults sink.old ≤ K.faults sink.new }
+    ensures quiet { OnOk result (K.faults sink.new ≡ K.faults sink.old) }
     ensures write { IsErrOf result Stop.WriteFault → Rose (K.faults sink.old) (K.faults sink.new) }
     ensures stops { IfErr result (λ stop. stop ≡ Stop.WriteFault) }
 {

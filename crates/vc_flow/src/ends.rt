@@ -51,6 +51,7 @@ impl Stop {
         ensures engine { result ≡ FlowEnd.EngineFault → self ≡ Stop.EngineFault }
         ensures long { result ≡ FlowEnd.TooLong → self ≡ Stop.TooLong }
         ensures memory { result ≡ FlowEnd.NoMemory → self ≡ Stop.NoMemory }
+        ensures too_long { self ≡ Stop.TooLong → result ≡ FlowEnd.TooLong }
         ensures not_whole { result ≢ FlowEnd.Whole }
         ensures not_damaged { result ≢ FlowEnd.Damaged }
         ensures not_short { result ≢ FlowEnd.ShortRaw }

@@ -9,6 +9,6 @@ mod closing;
 mod ends;
 
 pub use buffers::{is_failed, queue_source, write_taken};
-pub use calls::{call_done, request_buffers, set_format};
+pub use calls::{call_done, call_granted, request_buffers, set_format};
 pub use closing::close_slot;
 pub use ends::{FlowEnd, MOST_INPUT, Stop};

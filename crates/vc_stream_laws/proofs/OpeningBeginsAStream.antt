@@ -1,6 +1,6 @@
 -- What the calls that open a decoder do, up to the beginning of its stream. Open gives an idle decoder, subscriptions, a
 -- format and buffers leave it idle, and StreamOn of OUTPUT begins a stream of nothing.
-use Rattle.std.proofs.Common.{ℕ, min, ◌≡◌, ◌≢◌, Bool, true, false, ◌&&◌, ◌||◌, is_none, Option, Some, None, List, [], ◌∷◌, ◌++◌, refl, sym, ap, ◌∙◌, subst, arith, append_assoc, inl, ⊎_elim}
+use Rattle.std.proofs.Common.{ℕ, min, ◌≡◌, ◌≢◌, Bool, true, false, not, ◌&&◌, ◌||◌, is_none, Option, Some, None, List, [], ◌∷◌, ◌++◌, refl, sym, ap, ◌∙◌, subst, arith, append_assoc, inl, ⊎_elim}
 use Rattle.std.specs.List.{filter, flat_map}
 use Rattle.std.specs.Prelude.{nat_le}
 use Rattle.std.proofs.lemmas.Bool.{false≢true}
@@ -10,13 +10,14 @@ use Rattle.vc_base.specs.declared.Kind.{Kind}
 use Rattle.vc_base.specs.declared.Kind.TheVariants.{Dec}
 use Rattle.vc_base.specs.declared.Format.{Format}
 use Rattle.vc_base.specs.declared.Errno.{Errno}
+use Rattle.vc_base.specs.declared.Errno.TheVariants.{Inval}
 use Rattle.vc_base.specs.declared.Call.{Call}
 use Rattle.vc_base.specs.declared.Call.TheVariants.{Open, SetFmt, ReqBufs, StreamOn, Subscribe}
 use Rattle.vc_base.specs.declared.Reply.{Reply}
 use Rattle.vc_base.specs.declared.Reply.TheVariants.{Done, Fmt, Count, Blocked}
-use Rattle.vc_base.specs.Buffers.{Buffer, reqbufs_after, streamon_refusal, streamon_after}
+use Rattle.vc_base.specs.Buffers.{Buffer, refuse_if, reqbufs_after, streamon_refusal, streamon_after}
 use Rattle.vc_base.specs.Limits.{most_buffers, most_bytes}
-use Rattle.vc_base.specs.Events.{EventState}
+use Rattle.vc_base.specs.Events.{EventState, event_refusal, subscribe_after}
 use Rattle.vc_defs.specs.declared.Layout.TheVariants.{C420, C422}
 use Rattle.vc_model.specs.Formats.{width_for, height_for, frame_room, clamp, size_or, formats_for}
 use Rattle.vc_model.specs.Coder.{the_coder}
@@ -38,7 +39,7 @@ use Rattle.vc_queue.specs.Holds.{HoldState}
 use Rattle.vc_context.specs.Payloads.{handed_over}
 use Rattle.vc_port.specs.Payloads.{slot_after, bytes_out, is_of_job, AreOfJobs, with_call, IsCallOn, faulty_finishes}
 use Rattle.vc_stream_laws.specs.Streams.{stream_at_start, has_failed, rest_of, BeginsUnknown, IsPlainClient, IsGood, IsIdle, IsFresh, IsOpened}
-use Rattle.vc_stream_laws.specs.Laws.{Opens, SubscribesOpened, LimitsOpened, BuffersOpened, StreamBegins}
+use Rattle.vc_stream_laws.specs.Laws.{Opens, SubscribesOpened, SubscriptionsAreDone, LimitsOpened, BuffersOpened, StreamBegins}
 use Rattle.vc_stream_laws.proofs.OneEventMore.{slot_both, slot_more, bytes_more, count_of, counts_none, finishes_more, client_more}
 use Rattle.vc_stream_laws.proofs.GoodStreamsGoOn.{grown_segment}
 use Rattle.vc_stream_laws.proofs.ConsumedAndWaiting.{new_unbegun}
@@ -275,6 +276,19 @@ subscribes_opened start old new limited before after event told w call =
     (call_fresh start new limited limited request told y.0 a y.1 refl refl refl y.2 (λ t. ap (λ z. z.out.size) y.3 ∙ a.fresh.limit t)
     (fresh_grown c y.0 (Called request [] a.found) (Answered told (context_answer c request [] a.found).bytes) refl refl refl
     (y.4 ∙ a.fresh.idle.retired)))) (blocked_or_not told)
+
+pub subscriptions_are_done : SubscriptionsAreDone
+unfolding solo_step answer context_answer
+subscriptions_are_done start old new limited before after event told h w call =
+    let x = opened_jobs start old call.jobs limited call.of_jobs w in
+    let c = x.fresh.context in
+    let slot : slot_after (old ++ call.jobs) ≡ Some c = ap slot_after x.goes_on ∙ (slot_both start x.since x.closed ∙ x.fresh.stands) in
+    let request : Call = Subscribe event in
+    let e : SoloEvent = Called request [] call.found in
+    let same : Answered (context_answer c request [] call.found).reply (context_answer c request [] call.found).bytes ≡ Answered told call.handed = ap (λ (s : Slot). (solo_step the_coder s e).told) (sym slot) ∙ call.reply in
+    let reply : (context_answer c request [] call.found).reply ≡ told = cc in
+    let none : event_refusal c.kind event ≡ None = ap (λ (k : Kind). event_refusal k event) x.fresh.idle.kind ∙ ap (λ (b : Bool). refuse_if (not b) Inval None) h in
+    sym reply ∙ ap (λ (o : Option Errno). (unless c o (answered (record c { events = subscribe_after c.events event }) Done)).reply) none
 
 -- SetFmt on OUTPUT
 set_none : (c : Context) (o : Option Errno) (a : Answer) (format : Format) → (unless c o a).reply ≡ Fmt format → o ≡ None

@@ -13,6 +13,7 @@ use Rattle.vc_base.specs.declared.Call.TheVariants.{Open, EnumFmt, GetFmt, TryFm
 use Rattle.vc_base.specs.declared.Reply.{Reply}
 use Rattle.vc_base.specs.declared.Reply.TheVariants.{Done, Fmt, Count, Taken, Refused, Blocked}
 use Rattle.vc_base.specs.Limits.{most_bytes}
+use Rattle.vc_base.specs.Events.{has_event}
 use Rattle.vc_defs.specs.Decoder.{FrameResult}
 use Rattle.vc_defs.specs.Outputs.{input_results, decode_output, is_damage, result_count}
 use Rattle.vc_model.specs.Places.{has_error}
@@ -34,6 +35,11 @@ Opens =
 abbrev pub SubscribesOpened : Type 0
 SubscribesOpened =
     (start old new : List SoloEvent) (limited : Bool) (before after : HoldState) (event : ℕ) (told : Reply) → IsOpened start limited old → IsCallOn old before (Subscribe event) told new after → IsOpened start limited new
+
+-- A subscription to an event that decoders have is done.
+abbrev pub SubscriptionsAreDone : Type 0
+SubscriptionsAreDone =
+    (start old new : List SoloEvent) (limited : Bool) (before after : HoldState) (event : ℕ) (told : Reply) → has_event Dec event ≡ true → IsOpened start limited old → IsCallOn old before (Subscribe event) told new after → told ≡ Done
 
 -- A SetFmt that asks for the largest limit gives it.
 abbrev pub LimitsOpened : Type 0

@@ -1,7 +1,7 @@
 //! Laws over the coded stream of one decoder, call by call. Their subjects are "Decoding", "Drain" and "Dynamic Resolution Change"
 //! of the memory-to-memory stateful video decoder interface in the Linux userspace API documentation.
 
-ghost use Rattle.vc_stream_laws.specs.Laws.{BuffersOpened, BytesAreQueued, CaptureStarts, CaptureStops, ChangesAreTold, DrainBegins, DrainIsOver, FailedSourcesTell, FrontIsHandedOut, JobsKeep, LimitsOpened, NoResultsNoOutput, NoneLeftTells, Opens, PicturesAreTaken, QuietCallsKeep, SourcesComeBack, StopsAreTold, StopsBeforeEnd, StreamBegins, SubscribesOpened};
+ghost use Rattle.vc_stream_laws.specs.Laws.{BuffersOpened, BytesAreQueued, CaptureStarts, CaptureStops, ChangesAreTold, DrainBegins, DrainIsOver, FailedSourcesTell, FrontIsHandedOut, JobsKeep, LimitsOpened, NoResultsNoOutput, NoneLeftTells, Opens, PicturesAreTaken, QuietCallsKeep, SourcesComeBack, StopsAreTold, StopsBeforeEnd, StreamBegins, SubscribesOpened, SubscriptionsAreDone};
 
 /// Open gives a decoder to which nothing happened.
 pub fn opens()
@@ -11,6 +11,11 @@ pub fn opens()
 /// A subscription leaves such a decoder.
 pub fn subscribes_opened()
     ensures { SubscribesOpened }
+{}
+
+/// A subscription to an event that decoders have is done.
+pub fn subscriptions_are_done()
+    ensures { SubscriptionsAreDone }
 {}
 
 /// A format of OUTPUT that asks for the largest limit gives it.

@@ -3,6 +3,7 @@ use Rattle.vc_encode_flow.specs.Flows.{IsFlow}
 use Rattle.vc_encode_flow.specs.Steps.{HasTaken, with_frames}
 use Rattle.vc_encode_flow.proofs.StoppingWritesAPrefix.{stopped_at, stopped_later, wrote_front, wrote_frame}
 use Rattle.vc_flow.proofs.Results.{on_err, on_ok, no_fault, same_error}
+use Rattle.vc_encode_flow.proofs.FlowsGoOn.{has_flow, flow_moves}
 use Rattle.vc_encode_flow.proofs.collecting.collect.Goals as goal
 
 pub returns-in-Err-clause-stopped : goal.returns-in-Err-clause-stopped
@@ -16,6 +17,12 @@ pub returns-in_err-write_taken-clause-stopped : goal.returns-in_err-write_taken-
 returns-in_err-write_taken-clause-stopped g c = λ start f first a.
     let t = c.in-Ok.ensures.flow start f a.flow in
     on_err _ (wrote_front start f first _ _ t.frame _ a.wrote t.flow (c.in_err-write_taken.ensures.front t.frame t.there))
+
+pub returns-clause-flow : goal.returns-clause-flow
+returns-clause-flow g c =
+    let w = c.requires.flow in
+    let t = c.in-Ok.ensures.flow w.start w.so_far w.flow in
+    flow_moves _ _ _ _ c.queue_capture.ensures.flow (has_flow _ _ _ t.flow)
 
 pub returns-clause-taken : goal.returns-clause-taken
 returns-clause-taken g c = λ start f first a.

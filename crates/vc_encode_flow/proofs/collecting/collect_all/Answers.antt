@@ -1,4 +1,4 @@
-use Rattle.std.proofs.Common.{◌≡◌, arith, subst}
+use Rattle.std.proofs.Common.{◌≡◌, ◌∙◌, refl, arith, subst}
 use Rattle.vc_encode_flow.specs.Steps.{HasTaken, with_frames}
 use Rattle.vc_encode_flow.proofs.StoppingWritesAPrefix.{none_taken, more_taken, stopped_after}
 use Rattle.vc_encode_flow.proofs.collecting.collect_all.Goals as goal
@@ -7,17 +7,17 @@ pub loop-frame-preserved : goal.loop-frame-preserved
 loop-frame-preserved g c =
     let i = c.loop-frame.invariant in
     let o = c.in-Ok.ensures in
-    let a = i.3 in
-    let b = o.later in (
+    let still = i.3 in (
       o.ready,
       g.met.P.Port.follows_on _ _ _ i.1 o.follows,
       λ start f first a. let h = i.2 start f first a in more_taken start f _ first _ _ _ _ h (o.taken start (with_frames f h.frames) first h.at),
-      omega (arith, a, b),
+      o.quiet ∙ still,
+      o.flow,
     )
 
 pub loop-frame-init : goal.loop-frame-init
 loop-frame-init g c =
-    (c.requires.ready, g.met.P.Port.follows_self _, λ start f first a. none_taken start f first _ _ a, omega arith)
+    (c.requires.ready, g.met.P.Port.follows_self _, λ start f first a. none_taken start f first _ _ a, refl, c.requires.flow)
 
 pub returns-in-Err-clause-stopped : goal.returns-in-Err-clause-stopped
 returns-in-Err-clause-stopped g c = λ start f first a.

@@ -1,6 +1,7 @@
 use Rattle.std.proofs.Common.{true, false, refl}
+use Rattle.vc_flow.proofs.InputsAreBounded.{long_of_just}
 use Rattle.vc_flow.proofs.FaultsShow.{has_failed_later}
-use Rattle.vc_encode_flow.proofs.EndsAreDefinedOutput.{is_written, is_front, came_through}
+use Rattle.vc_encode_flow.proofs.EndsAreDefinedOutput.{is_written, is_front, came_through, on_through}
 use Rattle.vc_encode_flow.proofs.flowing.encode_on.Goals as goal
 
 pub returns-clause-whole : goal.returns-clause-whole
@@ -14,6 +15,23 @@ returns-clause-short g c = λ e.
 pub returns-clause-front : goal.returns-clause-front
 returns-clause-front g c =
     is_front _ _ _ _ _ _ _ _ _ _ c.requires.kept c.run_flow-ended.ensures.through c.run_flow-ended.ensures.stopped c.close_slot.ensures.bytes
+
+pub returns-clause-whole_quiet : goal.returns-clause-whole_quiet
+returns-clause-whole_quiet g c = λ e.
+    (on_through _ true (c.end_of.ensures.whole e) c.run_flow-ended.ensures.source_quiet, on_through _ true (c.end_of.ensures.whole e) c.run_flow-ended.ensures.sink_quiet)
+
+pub returns-clause-short_quiet : goal.returns-clause-short_quiet
+returns-clause-short_quiet g c = λ e.
+    (on_through _ false (c.end_of.ensures.short e) c.run_flow-ended.ensures.source_quiet, on_through _ false (c.end_of.ensures.short e) c.run_flow-ended.ensures.sink_quiet)
+
+pub returns-clause-long : goal.returns-clause-long
+returns-clause-long g c = λ e. long_of_just _ _ _ (c.run_flow-ended.ensures.long (c.end_of.ensures.long e))
+
+pub returns-clause-most : goal.returns-clause-most
+returns-clause-most g c = λ e. c.run_flow-ended.ensures.long (c.end_of.ensures.long e)
+
+pub returns-clause-below : goal.returns-clause-below
+returns-clause-below g c = λ n. c.run_flow-ended.ensures.below (λ e. n (c.end_of.ensures.too_long e))
 
 pub returns-clause-engine : goal.returns-clause-engine
 returns-clause-engine g c = λ e.

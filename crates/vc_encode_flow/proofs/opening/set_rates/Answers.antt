@@ -3,6 +3,15 @@ use Rattle.vc_encode_flow.specs.Flows.{with_rates}
 use Rattle.vc_encode_flow.proofs.RatesAreSet.{gop_set, iqp_set, pqp_set}
 use Rattle.vc_encode_flow.proofs.opening.set_rates.Goals as goal
 
+pub set_control-requires-clause-settable : goal.set_control-requires-clause-settable
+set_control-requires-clause-settable g c = λ rates. (_, gop_set rates _ c.requires.rates.0 c.requires.rates.1)
+
+pub set_control-requires-2-clause-settable : goal.set_control-requires-2-clause-settable
+set_control-requires-2-clause-settable g c = λ rates. (_, iqp_set rates _ c.requires.rates.2 c.requires.rates.3)
+
+pub set_control-requires-3-clause-settable : goal.set_control-requires-3-clause-settable
+set_control-requires-3-clause-settable g c = λ rates. (_, pqp_set rates _ c.requires.rates.4 c.requires.rates.5)
+
 pub returns-clause-flow : goal.returns-clause-flow
 returns-clause-flow g c = λ start f b w.
     let r = c.args.rates.now in

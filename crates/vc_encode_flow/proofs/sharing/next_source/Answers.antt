@@ -2,7 +2,8 @@ use Rattle.std.proofs.Common.{◌≡◌, ◌+◌, ◌-◌, arith, subst}
 use Rattle.vc_encode_flow.specs.Flows.{IsFlow}
 use Rattle.vc_encode_flow.specs.Shares.{IsSharing}
 use Rattle.vc_encode_flow.proofs.SharedBytesAreDefined.{sharing_flow}
-use Rattle.vc_flow.proofs.Results.{on_ok, no_fault, same_error}
+use Rattle.vc_flow.proofs.Results.{on_ok, same_error}
+use Rattle.vc_encode_flow.proofs.FlowsGoOn.{flow_moves}
 use Rattle.vc_encode_flow.proofs.sharing.next_source.Goals as goal
 
 pub returns-then-at-lt-BUFFERS-clause-shares : goal.returns-then-at-lt-BUFFERS-clause-shares
@@ -21,7 +22,12 @@ returns-in-Ok-clause-shares g c = λ start format number queued h.
     on_ok _ more (c.take_source.ensures.flow start (sharing_flow format number queued t.frames) t.flow)
 
 pub returns-in-Ok-clause-engine : goal.returns-in-Ok-clause-engine
-returns-in-Ok-clause-engine g c = λ start format number queued taken h e. no_fault _ c.take_source.ensures.memory e
+returns-in-Ok-clause-engine g c = λ start format number queued taken h e.
+    let t = c.in-Ok.ensures.shares start format number queued taken h in
+    c.take_source.ensures.engine start (sharing_flow format number queued t.frames) t.flow e
+
+pub returns-in-Ok-clause-flow : goal.returns-in-Ok-clause-flow
+returns-in-Ok-clause-flow g c = flow_moves _ _ _ _ c.take_source.ensures.flow c.in-Ok.ensures.flow
 
 pub returns-in-Err-clause-engine : goal.returns-in-Err-clause-engine
 returns-in-Err-clause-engine g c = λ start format number queued taken h e.

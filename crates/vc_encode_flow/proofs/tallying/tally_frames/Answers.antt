@@ -6,6 +6,7 @@ pub loop-frame-init : goal.loop-frame-init
 loop-frame-init g c = record {
   ready = c.requires.ready;
   follows = g.met.P.Port.follows_self _;
+  flow = c.requires.flow;
   bound = omega arith;
   shares = λ start format number queued taken h. subst (λ n. IsSharing start format number queued n c.args.tally.now (g.P.PayloadPort.events c.args.port.now)) (omega arith) h;
 }
@@ -19,6 +20,7 @@ loop-frame-preserved g c =
     record {
       ready = o.ready;
       follows = g.met.P.Port.follows_on _ _ _ i.follows o.follows;
+      flow = o.flow;
       bound = omega (arith, a, b);
       shares = λ start format number queued taken h.
           subst (λ n. IsSharing start format number queued n c.tally_frame.new.tally (g.P.PayloadPort.events c.tally_frame.new.port)) (omega arith) (o.shares start format number queued (taken + c.loop-frame._frame) (i.shares start format number queued taken h));
