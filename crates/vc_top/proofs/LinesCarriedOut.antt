@@ -12,14 +12,14 @@ use Rattle.vc_base.specs.Device.{DeviceEvent}
 use Rattle.vc_io.specs.Written.{AppendsFront}
 use Rattle.vc_model.specs.Devices.{new_device}
 use Rattle.vc_model.specs.Script.{Asked}
-use Rattle.vc_top.specs.declared.desk.Desk.{Desk}
+use Rattle.vc_desk.specs.declared.desk.Desk.{Desk}
 use Rattle.vc_top.specs.declared.script.LineStop.{LineStop}
 use Rattle.vc_top.specs.declared.script.LineStop.TheVariants as stops
 use Rattle.vc_top.specs.declared.status.Status.TheVariants.{WriteFault}
-use Rattle.vc_top.specs.Asking.{asks_line, asks_lines, with_rest}
-use Rattle.vc_top.specs.Carries.{finishes, is_finish, IsCounted}
+use Rattle.vc_desk.specs.Asking.{asks_line, asks_lines, with_rest}
+use Rattle.vc_desk.specs.Carries.{finishes, is_finish, IsCounted}
 use Rattle.vc_worker.specs.Turns.{RoseBy}
-use Rattle.vc_top.specs.Desks.{IsDesk}
+use Rattle.vc_desk.specs.Desks.{IsDesk}
 use Rattle.vc_crew.specs.Counts.{EngineCounts}
 use Rattle.vc_top.specs.Ends.{Carries, AllWritten, FrontWritten, LinesEnd}
 use Rattle.vc_top.specs.Steps.{LineDone, LineStopped, status_of, status_at_end}

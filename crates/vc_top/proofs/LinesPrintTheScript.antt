@@ -7,7 +7,7 @@ use Rattle.vc_model.specs.Coder.{Coder, the_coder}
 use Rattle.vc_model.specs.Devices.{DeviceState, new_device, device_step, device_after}
 use Rattle.vc_model.specs.Script.{Asked, line_events, line_text, lines_printed, first_lines, printed_by, script_events, script_text, Prints, events_of_script}
 use Rattle.vc_script.specs.Texts.{reply_text}
-use Rattle.vc_top.specs.Does.{LineDoes}
+use Rattle.vc_desk.specs.Does.{LineDoes}
 
 -- the lines were carried out from one state of the device, with this output and these events
 abbrev pub Carried : DeviceState → List Asked → List ℕ → List DeviceEvent → Type 0

@@ -20,11 +20,12 @@ use Rattle.vc_base.specs.Limits.{most_slots}
 use Rattle.vc_model.proofs.ScriptsAreHonest.{scripts_are_honest}
 use Rattle.vc_model.proofs.EachSlotPrintsItsOwn.{Comes, comes_next, comes_after, finishes_are_printed}
 use Rattle.vc_model.proofs.LinesArePrinted.{comes_held, claim_one}
-use Rattle.vc_top.specs.Asking.{asked_of, asks_line, asks_lines, with_rest}
-use Rattle.vc_top.specs.Carries.{finishes}
-use Rattle.vc_top.specs.Slots.{LinesAsk, ScriptIsHonest, FinishLinesAreCounted, TextsAreOne}
-use Rattle.vc_top.proofs.LinesCanBeAsked.{asked_line}
-use Rattle.vc_top.proofs.AnswersAreLines.{line_texts}
+use Rattle.vc_desk.specs.Asking.{asked_of, asks_line, asks_lines, with_rest}
+use Rattle.vc_desk.specs.Carries.{finishes}
+use Rattle.vc_model.proofs.EachSlotPrintsItsOwn.{slots_print_their_own, same_events_same_lines}
+use Rattle.vc_top.specs.Slots.{LinesAsk, ScriptIsHonest, FinishLinesAreCounted, TextsAreOne, OwnLines, SameLines}
+use Rattle.vc_desk.proofs.LinesCanBeAsked.{asked_line}
+use Rattle.vc_desk.proofs.AnswersAreLines.{line_texts}
 use Rattle.vc_top.proofs.LinesCarriedOut.{finishes_both}
 
 -- What is asked for
@@ -168,3 +169,13 @@ finish_lines_are_counted slots asked output fault m a p =
 pub texts_are_one : TextsAreOne
 texts_are_one slot worker word =
     record { claimed = refl; finished = refl; no_claim = refl; busy = refl; busy_run = refl; idle = refl }
+
+-- Lines of slots
+
+pub own_lines : OwnLines
+own_lines slots asked output k few l prints =
+    slots_print_their_own reply_text the_coder slots asked output k line_texts few l prints
+
+pub same_lines : SameLines
+same_lines slots others asked other_asked output other_output k few l other_few m prints other_prints same =
+    same_events_same_lines reply_text the_coder slots others asked other_asked output other_output k line_texts few l other_few m prints other_prints same

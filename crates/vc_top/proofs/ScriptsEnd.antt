@@ -7,12 +7,12 @@ use Rattle.std.proofs.lemmas.List.{append-nil}
 use Rattle.vc_base.specs.Counts.{Rose}
 use Rattle.vc_model.specs.Script.{Asked}
 use Rattle.vc_top.specs.declared.status.Status.{Status}
-use Rattle.vc_top.specs.declared.status.Status.TheVariants.{Fine, Usage, ReadFault, WriteFault, BadLine, Damaged, ShortRaw, EngineFault, TooLong, NoMemory}
+use Rattle.vc_top.specs.declared.status.Status.TheVariants.{Fine, Usage, ReadFault, WriteFault, BadLine, Damaged, ShortRaw, EngineFault, TooLong, NotARun, NoMemory}
 use Rattle.vc_top.specs.declared.input.ReadStop.TheVariants as reads
 use Rattle.vc_top.specs.Commands.{ScriptDoes}
 use Rattle.vc_top.specs.Engines.{OneRose}
 use Rattle.vc_top.specs.Runs.{seen}
-use Rattle.vc_top.specs.Asking.{asks_line, asks_lines, with_rest}
+use Rattle.vc_desk.specs.Asking.{asks_line, asks_lines, with_rest}
 use Rattle.vc_worker.specs.Turns.{RoseBy}
 use Rattle.vc_top.specs.Input.{WasRead, Stopped}
 use Rattle.vc_base.specs.Limits.{longest_script}
@@ -20,7 +20,7 @@ use Rattle.vc_crew.specs.Counts.{EngineCounts}
 use Rattle.vc_top.specs.Ends.{LinesEnd, ScriptEnds, IsGoodScript, IsTooLong, ReadAtMost}
 
 -- what was consumed up to the end is the whole
-whole : (input script : List ℕ) (new : Option (List ℕ)) → Consumes (Some input) new script → IsAtEnd new → input ≡ script
+pub whole : (input script : List ℕ) (new : Option (List ℕ)) → Consumes (Some input) new script → IsAtEnd new → input ≡ script
 whole input script None consumed end = absurd consumed
 whole input script (Some rest) consumed end = consumed ∙ (ap (λ z. script ++ z) end ∙ append-nil script)
 
@@ -42,16 +42,17 @@ of_lines slots input left old new before now ReadFault end short lines_end = abs
 of_lines slots input left old new before now TooLong end short lines_end = absurd lines_end
 of_lines slots input left old new before now Damaged end short lines_end = absurd lines_end
 of_lines slots input left old new before now ShortRaw end short lines_end = absurd lines_end
+of_lines slots input left old new before now (NotARun n) end short lines_end = absurd lines_end
 
 pub script_read :
-    (slots : ℕ) (had left old new : Option (List ℕ)) (script : List ℕ) (before now : EngineCounts) (status : Status) → WasRead had left script
+    (slots : ℕ) (had left old new : Option (List ℕ)) (script : List ℕ) (before now : EngineCounts) (status : Status) → WasRead longest_script had left script
     → LinesEnd slots (lines script) old new before now status → IfSome had (λ input. ScriptEnds slots input left old new before now status)
 script_read slots None left old new script before now status read lines_end = tt
 script_read slots (Some input) left old new script before now status read lines_end =
     let same = whole input script left read.read read.end in
     subst (λ z. ScriptEnds slots z left old new before now status) (sym same) (of_lines slots script left old new before now status read.end read.short lines_end)
 
-pub too_long : (slots : ℕ) (had left old : Option (List ℕ)) (before now : EngineCounts) → Stopped had left reads.TooLong → IfSome had (λ input. ScriptEnds slots input left old old before now TooLong)
+pub too_long : (slots : ℕ) (had left old : Option (List ℕ)) (before now : EngineCounts) → Stopped longest_script had left reads.TooLong → IfSome had (λ input. ScriptEnds slots input left old old before now TooLong)
 too_long slots None left old before now stopped = tt
 too_long slots (Some input) None old before now stopped = absurd stopped.read
 too_long slots (Some input) (Some rest) old before now stopped =
@@ -59,12 +60,12 @@ too_long slots (Some input) (Some rest) old before now stopped =
     let long : longest_script < length input = omega (arith, ap length stopped.read, length-append stopped.bytes rest, most) in
     (record { long = long; bytes = stopped.bytes; read = stopped.read; most = most }, refl)
 
-pub read_failed : (slots : ℕ) (had left old : Option (List ℕ)) (before now : EngineCounts) → Stopped had left reads.ReadFault → IfSome had (λ input. ScriptEnds slots input left old old before now ReadFault)
+pub read_failed : (slots : ℕ) (had left old : Option (List ℕ)) (before now : EngineCounts) → Stopped longest_script had left reads.ReadFault → IfSome had (λ input. ScriptEnds slots input left old old before now ReadFault)
 read_failed slots None left old before now stopped = tt
 read_failed slots (Some input) left old before now stopped =
     (record { bytes = stopped.bytes; read = stopped.read; short = stopped.fault refl }, refl)
 
-pub no_memory : (slots : ℕ) (had left old : Option (List ℕ)) (before now : EngineCounts) → Stopped had left reads.NoMemory → IfSome had (λ input. ScriptEnds slots input left old old before now NoMemory)
+pub no_memory : (slots : ℕ) (had left old : Option (List ℕ)) (before now : EngineCounts) → Stopped longest_script had left reads.NoMemory → IfSome had (λ input. ScriptEnds slots input left old old before now NoMemory)
 no_memory slots None left old before now stopped = tt
 no_memory slots (Some input) left old before now stopped =
     inr (record { bytes = stopped.bytes; read = stopped.read; short = stopped.short }, refl)
@@ -86,6 +87,7 @@ engine_cause slots ls old new before now TooLong e is = absurd (cc)
 engine_cause slots ls old new before now NoMemory e is = absurd (cc)
 engine_cause slots ls old new before now Damaged e is = absurd (cc)
 engine_cause slots ls old new before now ShortRaw e is = absurd (cc)
+engine_cause slots ls old new before now (NotARun n) e is = absurd (cc)
 
 pub never_usage : (slots : ℕ) (ls : List (List ℕ)) (old new : Option (List ℕ)) (before now : EngineCounts) (status : Status) → LinesEnd slots ls old new before now status → status ≡ Usage → ⊥
 never_usage slots ls old new before now EngineFault e is = cc
@@ -98,6 +100,7 @@ never_usage slots ls old new before now TooLong e is = e
 never_usage slots ls old new before now NoMemory e is = cc
 never_usage slots ls old new before now Damaged e is = e
 never_usage slots ls old new before now ShortRaw e is = e
+never_usage slots ls old new before now (NotARun n) e is = e
 
 pub never_read : (slots : ℕ) (ls : List (List ℕ)) (old new : Option (List ℕ)) (before now : EngineCounts) (status : Status) → LinesEnd slots ls old new before now status → status ≡ ReadFault → ⊥
 never_read slots ls old new before now EngineFault e is = cc
@@ -110,6 +113,7 @@ never_read slots ls old new before now TooLong e is = e
 never_read slots ls old new before now NoMemory e is = cc
 never_read slots ls old new before now Damaged e is = e
 never_read slots ls old new before now ShortRaw e is = e
+never_read slots ls old new before now (NotARun n) e is = e
 
 -- Completeness
 
@@ -141,6 +145,7 @@ complete_end slots input left old new before now NoMemory r0 r1 s0 s1 e a b c go
 complete_end slots input left old new before now Usage r0 r1 s0 s1 e a b c good x y z = absurd e
 complete_end slots input left old new before now Damaged r0 r1 s0 s1 e a b c good x y z = absurd e
 complete_end slots input left old new before now ShortRaw r0 r1 s0 s1 e a b c good x y z = absurd e
+complete_end slots input left old new before now (NotARun n) r0 r1 s0 s1 e a b c good x y z = absurd e
 complete_end slots input left old new before now ReadFault r0 r1 s0 s1 e a b c good x y z = absurd (x (a refl))
 complete_end slots input left old new before now WriteFault r0 r1 s0 s1 e a b c good x y z = absurd (y (b refl))
 complete_end slots input left old new before now EngineFault r0 r1 s0 s1 e a b c good x y z = absurd (z (c refl))

@@ -18,7 +18,7 @@ use Rattle.vc_words.specs.Commands.{contexts_option, shared_pictures_option, num
 use Rattle.vc_words.specs.Commands.{make_options, share_options, transcode_options, audit_options, wire_options, command_of}
 use Rattle.vc_top.specs.Shares.{context_line, share_lines, ShareLinesAreDefined}
 use Rattle.vc_top.specs.Words.{is_built_command, only_built_command, asked_command}
-use Rattle.vc_top.proofs.Meanings.{AllSome, all_bind, any, every, all_map, all_cond, one, nothing, where_some}
+use Rattle.vc_desk.proofs.Meanings.{AllSome, all_bind, any, every, all_map, all_cond, one, nothing, where_some}
 
 -- The format of the sharing
 

@@ -9,7 +9,8 @@ use Rattle.vc_words.specs.declared.command.DecodeOptions.{DecodeOptions}
 use Rattle.vc_words.specs.declared.command.MakeOptions.{MakeOptions}
 use Rattle.vc_words.specs.declared.command.ShareOptions.{ShareOptions}
 use Rattle.vc_top.specs.declared.status.Status.{Status}
-use Rattle.vc_top.specs.declared.status.Status.TheVariants.{Fine, Damaged, EngineFault}
+use Rattle.vc_top.specs.declared.status.Status.TheVariants.{Fine, Damaged, EngineFault, NotARun}
+use Rattle.vc_top.specs.Audits.{AuditEnds, IsGoodAudit}
 use Rattle.vc_top.specs.Decodes.{DecodeEnds, IsGoodStream}
 use Rattle.vc_top.specs.Encodes.{EncodeEnds, IsGoodRaw, frame_count}
 use Rattle.vc_top.specs.Ends.{ScriptEnds, IsGoodScript}
@@ -79,7 +80,29 @@ pub record ShareDoes (options : ShareOptions) (run : Run) : Type 0 where
   -- Where no write and no engine fails, it ends well.
   pub completes : ¬ WriteFailed run → ¬ EngineFailed options.workers run → EndsWell run
 
--- What the program does where this command is asked for. The last three are not built, and no words ask for them yet.
+-- how an audit of so many slots ends on this input
+abbrev pub AuditEnded : ℕ → Run → List ℕ → Type 0
+AuditEnded slots run input =
+    AuditEnds slots input run.after.source.left run.before.sink.written run.after.sink.written run.status
+
+abbrev pub IsNotARun : Status → Type 0
+IsNotARun (NotARun line) = ⊤
+IsNotARun status = ⊥
+
+-- the command ended well, or out of memory, or with the verdict that the report is no run
+abbrev pub EndsWithVerdict : Run → Type 0
+EndsWithVerdict run = EndsWell run ⊎ IsNotARun run.status
+
+pub record AuditDoes (slots : ℕ) (run : Run) : Type 0 where
+  -- The right verdict on the report is written, and nothing else, as far as the status tells.
+  pub ends : OnInput run (AuditEnded slots run)
+  -- After EngineFault the first engine counts a fault more.
+  pub engine_fault : run.status ≡ EngineFault → EngineFailed 1 run
+  -- On a good script with a report, where nothing fails outside, there is a verdict.
+  pub completes : OnInput run (λ input.
+      IsGoodAudit slots input → ¬ ReadFailed run → ¬ WriteFailed run → ¬ EngineFailed 1 run → EndsWithVerdict run)
+
+-- What the program does where this command is asked for. Two are not built, and no words ask for them yet.
 abbrev pub Does : Option Command → Run → Type 0
 Does None run = ⊤
 Does (Some (Script options)) run = ScriptDoes options.slots run
@@ -88,7 +111,7 @@ Does (Some (Decode options)) run = DecodeDoes options run
 Does (Some (Make options)) run = MakeDoes options run
 Does (Some (Share options)) run = ShareDoes options run
 Does (Some (Transcode options)) run = ⊤
-Does (Some (Audit options)) run = ⊤
+Does (Some (Audit options)) run = AuditDoes options.slots run
 Does (Some (Wire options)) run = ⊤
 
 -- The words ask for no command.

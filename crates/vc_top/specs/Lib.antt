@@ -1,9 +1,6 @@
-pub mod Asking
-pub mod Carries
+pub mod Audits
 pub mod Commands
 pub mod Decodes
-pub mod Desks
-pub mod Does
 pub mod Encodes
 pub mod Ends
 pub mod Engines

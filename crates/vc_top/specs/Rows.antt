@@ -8,7 +8,7 @@ use Rattle.vc_model.specs.Coder.{the_coder}
 use Rattle.vc_model.specs.Rows.{stamp}
 use Rattle.vc_model.specs.Script.{Asked, AsksNothing, AsksCall, AsksClaim, AsksFinish, AsksRun, Prints}
 use Rattle.vc_script.specs.Texts.{reply_text}
-use Rattle.vc_top.specs.Asking.{asks_lines}
+use Rattle.vc_desk.specs.Asking.{asks_lines}
 
 -- one copying context up to its streaming queues
 abbrev pub opening : List ℕ

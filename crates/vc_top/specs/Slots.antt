@@ -9,8 +9,8 @@ use Rattle.vc_model.specs.Script.{Asked, AsksClaim, AsksFinish, AsksRun, AreAske
 use Rattle.vc_base.specs.Limits.{most_slots}
 use Rattle.vc_script.specs.Texts as texts
 use Rattle.vc_script.specs.Texts.{reply_text, no_claim_text, busy_text, idle_text}
-use Rattle.vc_top.specs.Asking.{asks_lines}
-use Rattle.vc_top.specs.Carries.{finishes}
+use Rattle.vc_desk.specs.Asking.{asks_lines}
+use Rattle.vc_desk.specs.Carries.{finishes}
 use Rattle.vc_top.specs.Ends.{events_in}
 
 -- What is printed of each slot is what the slot is told by itself, on its own calls, claims and finishes alone.

@@ -1,7 +1,7 @@
 -- The exit status of the program, and what it says of its end on standard error.
 use Rattle.std.specs.Prelude.{ℕ, codes, List}
 use Rattle.vc_top.specs.declared.status.Status.{Status}
-use Rattle.vc_top.specs.declared.status.Status.TheVariants.{Fine, Usage, ReadFault, WriteFault, BadLine, Damaged, ShortRaw, EngineFault, TooLong, NoMemory}
+use Rattle.vc_top.specs.declared.status.Status.TheVariants.{Fine, Usage, ReadFault, WriteFault, BadLine, Damaged, ShortRaw, EngineFault, TooLong, NotARun, NoMemory}
 
 abbrev pub status_number : Status → ℕ
 status_number Fine = 0
@@ -13,9 +13,10 @@ status_number Damaged = 6
 status_number ShortRaw = 7
 status_number EngineFault = 8
 status_number TooLong = 10
+status_number (NotARun line) = 11
 status_number NoMemory = 12
 
--- the words; the number of a bad line comes behind them
+-- the words; where there is a line its number comes behind them
 abbrev pub status_text : Status → List ℕ
 status_text Fine = codes "fine"
 status_text Usage = codes "usage"
@@ -26,4 +27,5 @@ status_text Damaged = codes "damaged stream"
 status_text ShortRaw = codes "short raw picture"
 status_text EngineFault = codes "engine fault"
 status_text TooLong = codes "too long"
+status_text (NotARun line) = codes "not a run, line"
 status_text NoMemory = codes "no memory"

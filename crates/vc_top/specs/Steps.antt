@@ -4,13 +4,13 @@ use Rattle.std.specs.Io.KnownBytes.{Appends}
 use Rattle.vc_base.specs.Device.{DeviceEvent}
 use Rattle.vc_io.specs.Written.{AppendsFront}
 use Rattle.vc_model.specs.Script.{Asked}
-use Rattle.vc_top.specs.declared.desk.Desk.{Desk}
+use Rattle.vc_desk.specs.declared.desk.Desk.{Desk}
 use Rattle.vc_top.specs.declared.script.LineStop.{LineStop}
 use Rattle.vc_top.specs.declared.script.LineStop.TheVariants as stops
 use Rattle.vc_top.specs.declared.status.Status.{Status}
 use Rattle.vc_top.specs.declared.status.Status.TheVariants.{Fine, WriteFault, BadLine, EngineFault, NoMemory}
-use Rattle.vc_top.specs.Asking.{asks_line}
-use Rattle.vc_top.specs.Carries.{LineMade}
+use Rattle.vc_desk.specs.Asking.{asks_line}
+use Rattle.vc_desk.specs.Carries.{LineMade}
 
 -- The line was carried out, and what it prints was written.
 pub record LineDone (slots : ℕ) (history : List DeviceEvent) (line : List ℕ) (before after : Option (List ℕ)) (fault : Bool) (runs runs' faults faults' : ℕ) (desk : Desk) : Type 0 where

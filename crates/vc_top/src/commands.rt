@@ -9,15 +9,17 @@ ghost use Rattle.vc_top.specs.Makes.{MakeEnds};
 ghost use Rattle.vc_top.specs.Runs.{asked, seen};
 ghost use Rattle.vc_words.specs.Ranges.{IsMake};
 
+use crate::audit::audit_run;
 use crate::decode::decode_run;
 use crate::encode::encode_run;
-use crate::input::{ReadStop, read_script};
+use crate::input::{ReadStop, read_input};
 use crate::script::run_lines;
 use crate::share::share_run;
 use crate::status::Status;
 use std::alloc::Global;
 use std::sync::Wait;
 use std::thread::Threads;
+use vc_base::limits::LONGEST_SCRIPT;
 use vc_core::Engine;
 use vc_io::{Sink, Source};
 use vc_make::{MakeStop, write_pictures};
@@ -42,7 +44,7 @@ pub fn script_run<S: Source, K: Sink, E: Engine>(
     ensures write { result ≡ Status.WriteFault → Rose (K.faults sink.old) (K.faults sink.new) }
     ensures words { result ≢ Status.Usage }
 {
-    match read_script(alloc, source) {
+    match read_input(alloc, source, LONGEST_SCRIPT) {
         Ok(script) => run_lines(alloc, slots, &script, sink, engine),
         Err(ReadStop::ReadFault) => Status::ReadFault,
         Err(ReadStop::TooLong) => Status::TooLong,
@@ -69,7 +71,7 @@ fn make_run<K: Sink>(alloc: Global, options: &MakeOptions, sink: &mut K) -> Stat
 }
 
 /// Does all that the program does, on the words behind its name. It uses the first engines of the list, one for each
-/// worker and the first one for scripts; 16 come back, and those not used are untouched. It may wait for its workers.
+/// worker and the first one for scripts and audits; 16 come back, and those not used are untouched. It may wait for its workers.
 ///
 /// What each command does stands in specs/Commands.antt, one record a command.
 pub fn top<R: Threads + Wait + Sync, S: Source, K: Sink, E: Engine + Send>(
@@ -102,6 +104,9 @@ pub fn top<R: Threads + Wait + Sync, S: Source, K: Sink, E: Engine + Send>(
         Some(Command::Decode(options)) => decode_run(rt, alloc, &options, source, sink, engines),
         Some(Command::Make(options)) => make_run(alloc, &options, sink),
         Some(Command::Share(options)) => share_run(rt, alloc, &options, sink, engines),
+        Some(Command::Audit(options)) => {
+            audit_run(alloc, options.slots, source, sink, &mut engines[0])
+        }
         _ => Status::Usage,
     }
 }

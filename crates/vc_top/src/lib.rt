@@ -1,13 +1,12 @@
 //! The commands of the program: `script` reads a script whole, carries out its lines on a device, and prints
 //! what they answer; `encode` codes raw pictures and `decode` decodes coded streams, both by workers; `make` writes
-//! pictures of the generator, and `share` codes them in many contexts at once. docs/FORMAT.md has the grammar and the
-//! texts.
+//! pictures of the generator, `share` codes them in many contexts at once, and `audit` judges a report of a script.
+//! docs/FORMAT.md has the grammar and the texts.
 #![tactic(auto)]
 
-mod carry;
+mod audit;
 mod commands;
 mod decode;
-mod desk;
 mod encode;
 mod flows;
 mod input;

@@ -5,15 +5,14 @@ ghost use Rattle.std.specs.Str.Lines.{lines};
 ghost use Rattle.vc_base.specs.Counts.{Rose};
 ghost use Rattle.vc_base.specs.Device.{DeviceEvent};
 ghost use Rattle.vc_crew.specs.Counts.{count_of};
-ghost use Rattle.vc_top.specs.Desks.{IsDesk, IsSomeDesk};
+ghost use Rattle.vc_desk.specs.Desks.{IsDesk, IsSomeDesk};
 ghost use Rattle.vc_top.specs.Ends.{LinesEnd};
 ghost use Rattle.vc_top.specs.Steps.{LineDone, LineStopped, status_of, status_at_end};
 
-use crate::carry::carry_out;
-use crate::desk::Desk;
 use crate::status::Status;
 use std::alloc::Global;
 use vc_core::Engine;
+use vc_desk::{Desk, carry_out};
 use vc_io::{Sink, write_whole};
 use vc_script::{Line, LineFault, next_line, read_line};
 

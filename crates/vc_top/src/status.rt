@@ -21,8 +21,12 @@ pub enum Status {
     /// An engine gave up in a job. A script was carried out to its end all the same; `encode` and `decode` stopped, and
     /// `share` wrote nothing. Exit status 8.
     EngineFault,
-    /// The script has more than 1,048,576 bytes, or 2^40 bytes of video were read. Exit status 10.
+    /// The script has more than 1,048,576 bytes, the input of an audit more than 268,435,456, or 2^40 bytes of video were
+    /// read. Exit status 10.
     TooLong,
+    /// The report isn't one that a device may print for the script. The line, counted from 1, is its first wrong one, and
+    /// the verdict with it was written. Exit status 11.
+    NotARun { line: u64 },
     /// A growth of memory was refused. Exit status 12.
     NoMemory,
 }
@@ -42,12 +46,13 @@ impl Status {
             Status::ShortRaw => 7,
             Status::EngineFault => 8,
             Status::TooLong => 10,
+            Status::NotARun { .. } => 11,
             Status::NoMemory => 12,
         }
     }
 
-    /// What the program says of it on standard error. The number of a bad line comes behind it, and nothing is said where
-    /// the end is fine.
+    /// What the program says of it on standard error. The number of the line comes behind it where there is one, and
+    /// nothing is said where the end is fine.
     pub fn text(self) -> &'static str
         ensures { result.now ≡ status_text self }
     {
@@ -61,6 +66,7 @@ impl Status {
             Status::ShortRaw => "short raw picture",
             Status::EngineFault => "engine fault",
             Status::TooLong => "too long",
+            Status::NotARun { .. } => "not a run, line",
             Status::NoMemory => "no memory",
         }
     }

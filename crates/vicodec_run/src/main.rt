@@ -15,7 +15,7 @@ use std::thread::Threads;
 use std::{env, io};
 use vc_core::Engine;
 use vc_engine::{FastEngine, PlainEngine};
-use vc_io::{StdSink, StdSource};
+use vc_io::{Sink, StdSink, StdSource};
 use vc_lanes::LaneEngine;
 use vc_top::{Status, top};
 
@@ -100,7 +100,9 @@ fn report(rt: &impl Eprint, status: Status) -> io::Result<()> {
     let text = status.text();
     match status {
         Status::Fine => Ok(()),
-        Status::BadLine { line } => eprintln!(rt; "vicodec_run: {text} {line}"),
+        Status::BadLine { line } | Status::NotARun { line } => {
+            eprintln!(rt; "vicodec_run: {text} {line}")
+        }
         _ => eprintln!(rt; "vicodec_run: {text}"),
     }
 }

@@ -1,5 +1,6 @@
 //! Command lines through `top`, with sources and sinks in memory.
 
+mod audit;
 mod beside;
 mod copying;
 mod decode;

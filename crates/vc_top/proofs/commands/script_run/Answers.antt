@@ -10,7 +10,7 @@ returns-in-Ok-clause-does g c =
     let before : EngineCounts = count_of g.E.Engine.run_count g.E.Engine.fault_count c.args.engine.now in
     let now : EngineCounts = count_of g.E.Engine.run_count g.E.Engine.fault_count c.run_lines.new.engine in
     let had = g.S.Source.left c.args.source.now in
-    let left = g.S.Source.left c.read_script.new.source in
+    let left = g.S.Source.left c.read_input.new.source in
     let old = g.K.Sink.written c.args.sink.now in
     let new = g.K.Sink.written c.run_lines.new.sink in
     let lines_end =
@@ -25,7 +25,7 @@ pub returns-in-Err-ReadFault-clause-does : goal.returns-in-Err-ReadFault-clause-
 returns-in-Err-ReadFault-clause-does g c =
     let counts : EngineCounts = count_of g.E.Engine.run_count g.E.Engine.fault_count c.args.engine.now in
     let had = g.S.Source.left c.args.source.now in
-    let left = g.S.Source.left c.read_script.new.source in
+    let left = g.S.Source.left c.read_input.new.source in
     let ends = read_failed c.args.slots had left (g.K.Sink.written c.args.sink.now) counts counts (search rules) in
     script_does c.args.slots had left _ _ _ _ _ _ counts counts _ ends (λ _. search rules) (λ e. absurd (cc)) (λ e. absurd (cc))
 
@@ -33,7 +33,7 @@ pub returns-in-Err-TooLong-clause-does : goal.returns-in-Err-TooLong-clause-does
 returns-in-Err-TooLong-clause-does g c =
     let counts : EngineCounts = count_of g.E.Engine.run_count g.E.Engine.fault_count c.args.engine.now in
     let had = g.S.Source.left c.args.source.now in
-    let left = g.S.Source.left c.read_script.new.source in
+    let left = g.S.Source.left c.read_input.new.source in
     let ends = too_long c.args.slots had left (g.K.Sink.written c.args.sink.now) counts counts (search rules) in
     script_does c.args.slots had left _ _ _ _ _ _ counts counts _ ends (λ e. absurd (cc)) (λ e. absurd (cc)) (λ e. absurd (cc))
 
@@ -41,6 +41,6 @@ pub returns-in-Err-NoMemory-clause-does : goal.returns-in-Err-NoMemory-clause-do
 returns-in-Err-NoMemory-clause-does g c =
     let counts : EngineCounts = count_of g.E.Engine.run_count g.E.Engine.fault_count c.args.engine.now in
     let had = g.S.Source.left c.args.source.now in
-    let left = g.S.Source.left c.read_script.new.source in
+    let left = g.S.Source.left c.read_input.new.source in
     let ends = no_memory c.args.slots had left (g.K.Sink.written c.args.sink.now) counts counts (search rules) in
     script_does c.args.slots had left _ _ _ _ _ _ counts counts _ ends (λ e. absurd (cc)) (λ e. absurd (cc)) (λ e. absurd (cc))

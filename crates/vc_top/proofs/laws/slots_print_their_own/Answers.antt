@@ -1,4 +1,4 @@
-use Rattle.vc_top.proofs.AnswersAreLines.{own_lines, same_lines}
+use Rattle.vc_top.proofs.ScriptLaws.{own_lines, same_lines}
 use Rattle.vc_top.proofs.laws.slots_print_their_own.Goals as goal
 
 pub returns-clause-own : goal.returns-clause-own

@@ -2,8 +2,8 @@ use Rattle.std.proofs.Common.{ap, sym, subst}
 use Rattle.std.specs.Option.{option_map}
 use Rattle.std.specs.Io.KnownBytes.{Appends}
 use Rattle.vc_io.specs.Written.{AppendsFront}
-use Rattle.vc_top.specs.Asking.{IsAskedLine, asked_of}
-use Rattle.vc_top.proofs.LinesCanBeAsked.{asked_line}
+use Rattle.vc_desk.specs.Asking.{IsAskedLine, asked_of}
+use Rattle.vc_desk.proofs.LinesCanBeAsked.{asked_line}
 use Rattle.vc_top.proofs.script.do_line.Goals as goal
 
 pub carry_out-requires-clause-asked : goal.carry_out-requires-clause-asked

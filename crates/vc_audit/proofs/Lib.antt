@@ -1,0 +1,4 @@
+pub mod LinesAreReplayed
+pub mod PiecesOfReports
+pub mod ScriptsAreReplayed
+mod LinesAreCutOff

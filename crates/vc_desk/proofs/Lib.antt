@@ -1,0 +1,13 @@
+pub mod AnswersAreLines
+pub mod CallsAreSteps
+pub mod CallsOnHeldPayloads
+pub mod DeviceJobs
+pub mod EventsOfTexts
+pub mod JobsAreSteps
+pub mod KeepingJobs
+pub mod LinesCanBeAsked
+pub mod LinesFromSteps
+pub mod Meanings
+pub mod SkippedCalls
+pub mod StepsKeepDesks
+pub mod TextsEndInLines

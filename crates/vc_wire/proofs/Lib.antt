@@ -1,0 +1,4 @@
+mod LengthDecides
+mod PiecesAreAppended
+mod ShortBodiesAskNothing
+mod WordsHavePlaces
