@@ -1,7 +1,7 @@
 #!/usr/bin/env python3
 """Draws the pictures of docs/DEVICE.md beside itself: phases.svg, places.svg and slots.svg.
 
-Run it without arguments. It needs Python 3 alone.
+Run it without arguments. It needs Python 3 alone. Nothing of these pictures is proved.
 """
 import sys
 
@@ -22,7 +22,7 @@ def phases():
     p.box(780, 80, 110, 56, ["Stopped", "by a drain"])
     p.arrow([(110, 205), (110, 108), (208, 108)], ["STOP, while both", "queues stream"], (104, 84))
     p.arrow([(326, 108), (398, 108)], ["no source", "is left"], (362, 86))
-    p.arrow([(510, 108), (588, 108)], ["a CAPTURE", "buffer is", "ready: EOS"], (549, 71))
+    p.arrow([(510, 108), (588, 108)], ["a CAPTURE", "buffer is", "ready: EOS"], (546, 69))
     p.arrow([(700, 108), (778, 108)], ["DqBuf", "of LAST"], (739, 86))
     p.arrow([(275, 136), (275, 168), (650, 168), (650, 138)],
             ["the last source is done: LAST on what it gave; EOS"], (285, 161), "start")
@@ -83,9 +83,9 @@ def slots():
     for number, line in enumerate(["A job has its two buffers and", "the codec's state with it. Its", "engine runs under no lock."]):
         p.words(636, 238 + 16 * number, line)
     p.arrow([(304, 324), (360, 324), (360, 144), (414, 144)])
-    p.arrow([(534, 82), (585, 82), (585, 177), (634, 177)], ["claim"], (566, 76))
-    p.arrow([(730, 122), (730, 134), (604, 134), (604, 385), (10, 385), (10, 165), (34, 165)],
-            ["finish: buffers and state go back"], (360, 381))
+    p.arrow([(534, 82), (585, 82), (585, 177), (634, 177)], ["claim"], (555, 76), "start")
+    p.arrow([(730, 122), (730, 134), (604, 134), (604, 390), (10, 390), (10, 165), (34, 165)],
+            ["finish: buffers and state go back"], (360, 385))
     p.write()
 
 

@@ -53,7 +53,8 @@ class Picture:
     def text(self):
         """The whole picture, as the text of its file."""
         whole = "\n".join(self.parts)
-        head = f'<svg xmlns="http://www.w3.org/2000/svg" viewBox="0 0 {self.width} {self.height}" role="img">'
+        size = f'width="{self.width}" height="{self.height}" viewBox="0 0 {self.width} {self.height}"'
+        head = f'<svg xmlns="http://www.w3.org/2000/svg" {size} role="img">'
         return f"{head}\n{whole}\n</svg>\n"
 
     def write(self):
