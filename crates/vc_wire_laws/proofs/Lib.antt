@@ -1,0 +1,4 @@
+pub mod CodecRunsAreShort
+pub mod EncodersKeepTheirSizes
+pub mod FramesAreShort
+pub mod PicturesAreShort
