@@ -13,7 +13,7 @@ use Rattle.vc_lanes.specs.Rows.{column, ordered}
 pub column_at : (x : List ℤ) (c u : ℕ) → u < 8 → get_or (column x c) u (pos 0) ≡ entry_at x u c
 column_at x c u h = each_of_eight (λ u. get_or (column x c) u (pos 0) ≡ entry_at x u c) refl refl refl refl refl refl refl refl u h
 
-entry_is : (y : List ℤ) (k : ℕ) → get_or y k (pos 0) ≡ entry_at y (k / 8) (k % 8)
+pub entry_is : (y : List ℤ) (k : ℕ) → get_or y k (pos 0) ≡ entry_at y (k / 8) (k % 8)
 entry_is y k = let e : k ≡ 8 * (k / 8) + k % 8 = omega arith in ap (λ j. get_or y j (pos 0)) e
 
 column_within : (n : ℕ) (x : List ℤ) (c : ℕ) → c < 8 → ((k : ℕ) → k < 64 → Within n (get_or x k (pos 0))) → (u : ℕ) → u < 8 → Within n (get_or (column x c) u (pos 0))

@@ -1,7 +1,7 @@
 //! The lane engine.
 
-use crate::LaneTransform;
-use vc_engine::TransformEngine;
+use crate::LaneCoder;
+use vc_engine::CodecEngine;
 
-/// The engine that transforms by vectors of eight lanes.
-pub type LaneEngine = TransformEngine<LaneTransform>;
+/// The engine that codes blocks by vectors.
+pub type LaneEngine = CodecEngine<LaneCoder>;

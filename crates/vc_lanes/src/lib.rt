@@ -1,5 +1,8 @@
-//! The Walsh transform by vectors of eight lanes, for `std::simd`. A lane has a column of the block, and a step of
-//! butterflies is a sum and a difference of whole rows. The lane engine runs with it.
+//! The lane engine: a coder of blocks by vectors, for `std::simd`.
+//!
+//! The samples of a block come from its values on numbers of 16 bits, wherever they suffice. Where they don't, and for the
+//! values, the Walsh transform has vectors of eight lanes of 32 bits: a lane has a column of the block, and a step of
+//! butterflies is a sum and a difference of whole rows.
 #![tactic(auto)]
 
 ghost use Rattle.std.specs.Prelude.{◌≡◌, ◌≢◌, ◌≤◌, ◌<◌, ◌+◌, ◌*◌, ◌/◌, ◌+ℤ◌, ◌-ℤ◌, ℕ, ℤ, pos, neg_ℤ, length, slice_index_or, take, drop};
@@ -9,8 +12,15 @@ ghost use Rattle.vc_defs.specs.Quantiser.{AllBetween};
 ghost use Rattle.vc_fwht.specs.Passes.{stage, columns};
 ghost use Rattle.vc_lanes.specs.Rows.{column, ordered};
 
+mod coder;
+mod dequantising;
 mod engine;
+mod ranges;
+mod restoring;
+mod short;
+mod showing;
 
+pub use coder::LaneCoder;
 pub use engine::LaneEngine;
 use std::simd::prelude::*;
 use vc_fwht::{Transform, rows_of};

@@ -1,9 +1,10 @@
-//! The lanes against the plain transform at the edges of the range.
+//! The lanes against the plain transform, and the coder against the plain one, at the edges of the range.
 
 ghost use Rattle.std.specs.Prelude.{◌≤ℤ◌, neg_ℤ, pos};
 ghost use Rattle.vc_defs.specs.Quantiser.{AllBetween};
 
-use super::LaneTransform;
+use super::{LaneCoder, LaneTransform};
+use vc_coder::{BlockCoder, TransformCoder};
 use vc_fwht::{PlainTransform, Transform};
 
 /// One of two numbers, in turn.
@@ -45,4 +46,39 @@ fn lanes_agree_with_sums(rt: HostRuntime) {
         assert!(rt; is_plain(&LaneTransform, &x));
         assert_eq!(rt; LaneTransform.forward(&x)[0], first);
     }
+}
+
+/// A block of two samples, one at each third place.
+fn thirds(one: u8, other: u8) -> [u8; 64] {
+    let mut block = [other; 64];
+    for k in 0..64 {
+        if k % 3 == 0 {
+            block[k] = one;
+        }
+    }
+    block
+}
+
+/// Whether the coder gives what the coder over the sums gives, both ways.
+fn codes_as_plain(block: &[u8; 64], old: &[u8; 64], inter: bool) -> bool {
+    let plain = TransformCoder(PlainTransform);
+    let values = LaneCoder.values(block, old, inter, 1);
+    values == plain.values(block, old, inter, 1)
+        && LaneCoder.samples(&values, old, inter) == plain.samples(&values, old, inter)
+}
+
+#[test]
+fn coder_agrees_with_sums(rt: HostRuntime) {
+    for (one, other) in [(255, 0), (0, 255), (130, 126), (255, 255)] {
+        let block = thirds(one, other);
+        assert!(rt; codes_as_plain(&block, &[0; 64], false));
+        assert!(rt; codes_as_plain(&block, &[0; 64], true));
+        assert!(rt; codes_as_plain(&block, &[255; 64], true));
+    }
+}
+
+#[test]
+fn first_value_is_the_sum_of_differences_over_eight(rt: HostRuntime) {
+    assert_eq!(rt; LaneCoder.values(&[255; 64], &[0; 64], true, 1)[0], 2040);
+    assert_eq!(rt; LaneCoder.values(&[0; 64], &[255; 64], true, 1)[0], -2040);
 }

@@ -13,13 +13,11 @@ use std::rt::Env;
 use std::sync::Wait;
 use std::thread::Threads;
 use std::{env, io};
-use vc_core::Engine;
-use vc_engine::{FastEngine, PlainEngine};
+use vc_engines::{ProgramEngine, program_engines};
 use vc_io::{Sink, StdSink, StdSource};
-use vc_lanes::LaneEngine;
 use vc_top::{Status, top};
 
-/// How many engines are handed in: plain, fast and lane engines in turn.
+/// How many engines are handed in.
 const ENGINES: u32 = 16;
 
 /// The bytes of output that are kept back before they are handed on.
@@ -49,7 +47,7 @@ fn words(rt: &(impl Env + Alloc<A = Global>)) -> Result<Vec<String>, Status> {
 fn command<R: Threads + Wait + Sync + Input + Print + Alloc<A = Global>>(
     rt: &R,
     words: &[String],
-    engines: &mut Vec<Box<dyn Engine + Send>>,
+    engines: &mut Vec<ProgramEngine>,
 ) -> Status
     requires { vec_len engines.old ≡ 16 }
 {
@@ -72,26 +70,9 @@ fn run<R: Threads + Wait + Sync + Env + Input + Print + Alloc<A = Global>>(rt: &
         Ok(words) => words,
         Err(status) => return status,
     };
-    let mut engines: Vec<Box<dyn Engine + Send>> = Vec::new(alloc);
-    for number in 0..ENGINES {
-        let refused = match number % 3 {
-            0 => match Box::new(alloc, PlainEngine::new()) {
-                Ok(engine) => engines.push(engine).is_err(),
-                Err(_) => true,
-            },
-            1 => match Box::new(alloc, FastEngine::new()) {
-                Ok(engine) => engines.push(engine).is_err(),
-                Err(_) => true,
-            },
-            _ => match Box::new(alloc, LaneEngine::new()) {
-                Ok(engine) => engines.push(engine).is_err(),
-                Err(_) => true,
-            },
-        };
-        if refused {
-            return Status::NoMemory;
-        }
-    }
+    let Ok(mut engines) = program_engines(alloc, ENGINES) else {
+        return Status::NoMemory;
+    };
     command(rt, &words, &mut engines)
 }
 

@@ -1,0 +1,20 @@
+use Rattle.std.proofs.Common.{arith}
+use Rattle.std.specs.Prelude.{pos}
+use Rattle.vc_lanes.proofs.WeavingKeepsLanes.{each_of_four, from_first, from_second}
+use Rattle.vc_lanes.proofs.short.second_woven.Goals as goal
+
+pub returns-clause-even : goal.returns-clause-even
+returns-clause-even c =
+    each_of_four _
+    (from_first c.args.a c.args.b 4 c.requires.a_long c.requires.a_bounds (omega arith))
+    (from_first c.args.a c.args.b 5 c.requires.a_long c.requires.a_bounds (omega arith))
+    (from_first c.args.a c.args.b 6 c.requires.a_long c.requires.a_bounds (omega arith))
+    (from_first c.args.a c.args.b 7 c.requires.a_long c.requires.a_bounds (omega arith))
+
+pub returns-clause-odd : goal.returns-clause-odd
+returns-clause-odd c =
+    each_of_four _
+    (from_second c.args.a c.args.b 4 c.requires.a_long c.requires.b_long c.requires.b_bounds (omega arith))
+    (from_second c.args.a c.args.b 5 c.requires.a_long c.requires.b_long c.requires.b_bounds (omega arith))
+    (from_second c.args.a c.args.b 6 c.requires.a_long c.requires.b_long c.requires.b_bounds (omega arith))
+    (from_second c.args.a c.args.b 7 c.requires.a_long c.requires.b_long c.requires.b_bounds (omega arith))
