@@ -1,3 +1,5 @@
+mod AnsweredBodies
+mod CallsQueueTheirBytes
 mod LengthDecides
 mod PiecesAreAppended
 mod ShortBodiesAskNothing

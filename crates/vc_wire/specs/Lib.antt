@@ -1,3 +1,4 @@
+pub mod Answers
 pub mod Framing
 pub mod Replies
 pub mod Requests

@@ -1,6 +1,6 @@
 //! Messages out of bytes that come in pieces.
 
-ghost use Rattle.std.specs.Prelude.{◌≡◌, ◌≤◌, ◌+◌, ◌++◌, [], length, take, IfOk, OnOk, OnErr};
+ghost use Rattle.std.specs.Prelude.{◌≡◌, ◌≤◌, ◌+◌, ◌==◌, ◌++◌, not, [], length, take, IfOk, OnOk, OnErr};
 ghost use Rattle.vc_model.specs.Messages.{fed, is_length, number_at};
 ghost use Rattle.vc_wire.specs.Framing.{told_by};
 
@@ -107,6 +107,13 @@ impl Framer {
         mem::swap(&mut self.kept, &mut self.message);
         self.kept.clear();
         Ok((count, Framed::Whole))
+    }
+
+    /// Whether a message is begun.
+    pub fn is_begun(&self) -> bool
+        ensures { result ≡ not (length self.now.kept == 0) }
+    {
+        !self.kept.is_empty()
     }
 
     /// The body of the last message that ended; no bytes before the first one.

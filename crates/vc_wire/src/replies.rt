@@ -1,6 +1,6 @@
 //! Replies as bytes.
 
-ghost use Rattle.std.specs.Prelude.{◌≡◌, ◌++◌, ◌∷◌, [], IfOk, OnOk};
+ghost use Rattle.std.specs.Prelude.{◌≡◌, ◌<◌, ◌+◌, ◌^◌, ◌++◌, ◌∷◌, [], length, take, OnOk, OnErr};
 ghost use Rattle.vc_model.specs.Messages.{number_bytes, wide_bytes};
 ghost use Rattle.vc_base.specs.declared.Reply.TheVariants.{Created, Desc, Fmt, Happened, Ready, Taken};
 ghost use Rattle.vc_model.specs.Wire.{claimed_reply, finished_reply, framed, reply_body, truth_byte, word_byte};
@@ -8,6 +8,9 @@ ghost use Rattle.vc_wire.specs.Replies.{HasUsed, handed_part, reply_fields, used
 
 use std::alloc::Global;
 use vc_base::{Call, Format, Fourcc, NoMemory, Reply, Side, Stamp};
+
+/// The most bytes that the fields of a reply have: those of a buffer that was taken.
+const MOST_FIELDS: usize = 29;
 
 /// Appends a byte.
 fn put_byte(out: &mut Vec<u8>, byte: u8) -> Result<(), NoMemory>
@@ -40,18 +43,32 @@ fn put_truth(out: &mut Vec<u8>, truth: bool) -> Result<(), NoMemory>
     put_byte(out, if truth { 1 } else { 0 })
 }
 
-/// A reply from its fields and the bytes of a buffer behind them, with the length before it.
-fn framed(alloc: Global, fields: &[u8], payload: &[u8]) -> Result<Vec<u8>, NoMemory>
-    ensures { IfOk result (λ out. out.items ≡ framed (fields.now ++ payload.now)) }
+// Appends the parts of a reply. Where there is no memory for one of them, those before it stay.
+fn put_parts(out: &mut Vec<u8>, size: u32, fields: &[u8], payload: &[u8]) -> Result<(), NoMemory>
+    ensures parts { OnOk result (out.new.items ≡ out.old.items ++ (number_bytes size ++ (fields.now ++ payload.now))) }
+    ensures front { take (length out.old.items) out.new.items ≡ out.old.items }
+{
+    out.extend_from_slice(&size.to_be_bytes())?;
+    out.extend_from_slice(fields)?;
+    out.extend_from_slice(payload)?;
+    Ok(())
+}
+
+/// Appends a reply from its fields and the bytes of a buffer behind them, with the length before it.
+fn put_framed(out: &mut Vec<u8>, fields: &[u8], payload: &[u8]) -> Result<(), NoMemory>
+    ensures reply { OnOk result (out.new.items ≡ out.old.items ++ framed (fields.now ++ payload.now)) }
+    ensures short { OnOk result (length fields.now + length payload.now < 2 ^ 32) }
+    ensures untold { OnErr result (out.new.items ≡ out.old.items) }
 {
     let Ok(length) = u32::try_from(fields.len() + payload.len()) else {
         return Err(NoMemory);
     };
-    let mut out = Vec::with_capacity(alloc, 4 + length as usize)?;
-    put_number(&mut out, length)?;
-    out.extend_from_slice(fields)?;
-    out.extend_from_slice(payload)?;
-    Ok(out)
+    let begin = out.len();
+    if put_parts(out, length, fields, payload).is_err() {
+        out.truncate(begin);
+        return Err(NoMemory);
+    }
+    Ok(())
 }
 
 /// Appends the byte of a reply and one number.
@@ -208,35 +225,49 @@ fn carried<'a>(call: &Call, reply: &Reply, payload: &'a [u8]) -> &'a [u8]
     }
 }
 
-/// The reply to a call. Its payload is that of the buffer that was taken from CAPTURE, if one was.
-pub fn called(
+/// Appends the reply to a call. Its payload is that of the buffer that was taken from CAPTURE, if one was.
+///
+/// # Errors
+/// `NoMemory` where no memory is found for the reply. Then nothing was appended.
+pub fn put_called(
     alloc: Global,
+    out: &mut Vec<u8>,
     call: &Call,
     reply: &Reply,
     payload: &[u8],
-) -> Result<Vec<u8>, NoMemory>
+) -> Result<(), NoMemory>
     requires { HasUsed call.now reply.now payload.now }
-    ensures { IfOk result (λ out. out.items ≡ framed (reply_body call.now reply.now (used_bytes reply.now payload.now))) }
+    ensures reply { OnOk result (out.new.items ≡ out.old.items ++ framed (reply_body call.now reply.now (used_bytes reply.now payload.now))) }
+    ensures short { OnOk result (length (reply_body call.now reply.now (used_bytes reply.now payload.now)) < 2 ^ 32) }
+    ensures untold { OnErr result (out.new.items ≡ out.old.items) }
 {
-    let mut fields = Vec::new(alloc);
+    let mut fields = Vec::with_capacity(alloc, MOST_FIELDS)?;
     put_fields(&mut fields, reply)?;
-    framed(alloc, fields.as_slice(), carried(call, reply, payload))
+    put_framed(out, fields.as_slice(), carried(call, reply, payload))
 }
 
-/// A reply of one byte.
-pub fn short(alloc: Global, code: u8) -> Result<Vec<u8>, NoMemory>
-    ensures { IfOk result (λ out. out.items ≡ framed (code ∷ [])) }
+/// Appends a reply of one byte.
+///
+/// # Errors
+/// `NoMemory` where no memory is found for the reply. Then nothing was appended.
+pub fn put_short(out: &mut Vec<u8>, code: u8) -> Result<(), NoMemory>
+    ensures reply { OnOk result (out.new.items ≡ out.old.items ++ framed (code ∷ [])) }
+    ensures untold { OnErr result (out.new.items ≡ out.old.items) }
 {
-    framed(alloc, &[code], &[])
+    put_framed(out, &[code], &[])
 }
 
-/// The reply to a claim that took a slot.
-pub fn claimed(alloc: Global, slot: u32) -> Result<Vec<u8>, NoMemory>
-    ensures { IfOk result (λ out. out.items ≡ claimed_reply slot) }
+/// Appends the reply to a claim that took a slot.
+///
+/// # Errors
+/// `NoMemory` where no memory is found for the reply. Then nothing was appended.
+pub fn put_claimed(alloc: Global, out: &mut Vec<u8>, slot: u32) -> Result<(), NoMemory>
+    ensures reply { OnOk result (out.new.items ≡ out.old.items ++ claimed_reply slot) }
+    ensures untold { OnErr result (out.new.items ≡ out.old.items) }
 {
-    let mut fields = Vec::new(alloc);
+    let mut fields = Vec::with_capacity(alloc, MOST_FIELDS)?;
     put_one(&mut fields, 0x50, slot)?;
-    framed(alloc, fields.as_slice(), &[])
+    put_framed(out, fields.as_slice(), &[])
 }
 
 /// The byte of the word that says how a job ended.
@@ -255,12 +286,16 @@ fn word_byte(word: &str) -> u8
     }
 }
 
-/// The reply to a finish, with the word that says how the job ended.
-pub fn finished(alloc: Global, slot: u32, word: &str) -> Result<Vec<u8>, NoMemory>
-    ensures { IfOk result (λ out. out.items ≡ finished_reply slot word.now) }
+/// Appends the reply to a finish, with the word that says how the job ended.
+///
+/// # Errors
+/// `NoMemory` where no memory is found for the reply. Then nothing was appended.
+pub fn put_finished(alloc: Global, out: &mut Vec<u8>, slot: u32, word: &str) -> Result<(), NoMemory>
+    ensures reply { OnOk result (out.new.items ≡ out.old.items ++ finished_reply slot word.now) }
+    ensures untold { OnErr result (out.new.items ≡ out.old.items) }
 {
-    let mut fields = Vec::new(alloc);
+    let mut fields = Vec::with_capacity(alloc, MOST_FIELDS)?;
     put_one(&mut fields, 0x53, slot)?;
     put_byte(&mut fields, word_byte(word))?;
-    framed(alloc, fields.as_slice(), &[])
+    put_framed(out, fields.as_slice(), &[])
 }

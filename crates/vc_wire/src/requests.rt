@@ -6,7 +6,7 @@ ghost use Rattle.vc_base.specs.declared.Call.TheVariants.{CreateBufs, EnumFmt, G
 ghost use Rattle.vc_base.specs.declared.Side.TheVariants.{Cap};
 ghost use Rattle.vc_base.specs.Buffers.{zero_stamp};
 ghost use Rattle.vc_model.specs.Messages.{asked_in, call_in, format_at, is_fourcc, kind_of, number_at, on_format, on_side, payload_in, queue_output, side_of, sized, with_kind};
-ghost use Rattle.vc_wire.specs.Requests.{asked_by_request};
+ghost use Rattle.vc_wire.specs.Requests.{asked_by_request, IsInRange};
 
 use crate::numbers::{number_at, wide_at};
 use vc_base::limits::SCRIPT_WORKERS;
@@ -289,7 +289,8 @@ fn call_in(code: u8, body: &[u8]) -> Option<Call>
 /// worker out of range.
 pub fn request_in(slots: u32, body: &[u8]) -> Option<Request>
     requires { length body.now < 2 ^ 32 }
-    ensures { asked_by_request result body.now ≡ asked_in slots body.now }
+    ensures asked { asked_by_request result body.now ≡ asked_in slots body.now }
+    ensures range { IfSome result (λ request. IsInRange slots request) }
 {
     if body.len() < HEAD_SIZE {
         return None;

@@ -6,11 +6,11 @@ use Rattle.vc_model.specs.Messages.{call_in, number_at, payload_in}
 use Rattle.vc_wire.proofs.ShortBodiesAskNothing.{short_asks, call_asked}
 use Rattle.vc_wire.proofs.requests.request_in.Goals as goal
 
-pub returns-then-body-lt-HEAD_SIZE : goal.returns-then-body-lt-HEAD_SIZE
-returns-then-body-lt-HEAD_SIZE c = sym (short_asks c.args.slots c.args.body.now (omega arith))
+pub returns-then-body-lt-HEAD_SIZE-clause-asked : goal.returns-then-body-lt-HEAD_SIZE-clause-asked
+returns-then-body-lt-HEAD_SIZE-clause-asked c = sym (short_asks c.args.slots c.args.body.now (omega arith))
 
-pub returns-in_ok-call-in_default : goal.returns-in_ok-call-in_default
-returns-in_ok-call-in_default c =
+pub returns-in_ok-call-in_default-clause-asked : goal.returns-in_ok-call-in_default-clause-asked
+returns-in_ok-call-in_default-clause-asked c =
     let body = c.args.body.now in
     let call = c.in_ok-call-in_default.call in
     let first : 0 < length body = grind (arith, common_steps) in
