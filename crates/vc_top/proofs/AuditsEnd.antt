@@ -9,7 +9,7 @@ use Rattle.vc_audit.specs.declared.verdict.Verdict.{Verdict}
 use Rattle.vc_audit.specs.declared.verdict.Verdict.TheVariants.{Yes, No}
 use Rattle.vc_audit.specs.Verdicts.{first_bad_line}
 use Rattle.vc_top.specs.declared.status.Status.{Status}
-use Rattle.vc_top.specs.declared.status.Status.TheVariants.{Fine, Usage, ReadFault, WriteFault, BadLine, Damaged, ShortRaw, EngineFault, TooLong, NotARun, NoMemory}
+use Rattle.vc_top.specs.declared.status.Status.TheVariants.{Fine, Usage, ReadFault, WriteFault, BadLine, Damaged, ShortRaw, EngineFault, TooLong, NotARun, NoMemory, BadMessage}
 use Rattle.vc_top.specs.declared.input.ReadStop.TheVariants as reads
 use Rattle.vc_top.specs.Audits.{longest_audit, script_in, report_in, verdict_line, HasVerdict, VerdictTold, LineIsMissing, missing_line, or_else, bad_line_in, AuditTold, AuditEnds, IsGoodAudit}
 use Rattle.vc_words.specs.declared.command.Command.{Command}
@@ -56,7 +56,9 @@ told_verdict slots input (No n) old new ReadFault has told = let e : ReadFault �
 told_verdict slots input Yes old new Damaged has told = let e : Damaged ≡ Fine = told.0 in cc
 told_verdict slots input (No n) old new Damaged has told = let e : Damaged ≡ NotARun n = told.0 in cc
 told_verdict slots input Yes old new ShortRaw has told = let e : ShortRaw ≡ Fine = told.0 in cc
+told_verdict slots input Yes old new (BadMessage b) has told = let e : BadMessage b ≡ Fine = told.0 in cc
 told_verdict slots input (No n) old new ShortRaw has told = let e : ShortRaw ≡ NotARun n = told.0 in cc
+told_verdict slots input (No n) old new (BadMessage b) has told = let e : BadMessage b ≡ NotARun n = told.0 in cc
 
 -- A script without a report has a bad line, or lacks one.
 pub told_missing :
@@ -74,6 +76,7 @@ told_missing slots input old Usage none fits missing = absurd missing
 told_missing slots input old ReadFault none fits missing = absurd missing
 told_missing slots input old Damaged none fits missing = absurd missing
 told_missing slots input old ShortRaw none fits missing = absurd missing
+told_missing slots input old (BadMessage b) none fits missing = absurd missing
 
 -- A bad line of the script is that of the input.
 pub bad_is : (slots : ℕ) (input : List ℕ) (n : ℕ) → first_bad_line slots (script_in input) ≡ Some n → bad_line_in slots input ≡ Some n
@@ -105,6 +108,7 @@ of_told slots input left old new EngineFault read end short told = record { read
 of_told slots input left old new Usage read end short told = absurd told
 of_told slots input left old new Damaged read end short told = absurd told
 of_told slots input left old new ShortRaw read end short told = absurd told
+of_told slots input left old new (BadMessage b) read end short told = absurd told
 
 pub audit_read :
     (slots : ℕ) (had left old new : Option (List ℕ)) (bytes : List ℕ) (status : Status) → WasRead longest_audit had left bytes
@@ -158,6 +162,7 @@ complete_audit slots input left old new before now (BadLine n) r0 r1 s0 s1 e a b
 complete_audit slots input left old new before now Usage r0 r1 s0 s1 e a b c good x y z = absurd e.told
 complete_audit slots input left old new before now Damaged r0 r1 s0 s1 e a b c good x y z = absurd e.told
 complete_audit slots input left old new before now ShortRaw r0 r1 s0 s1 e a b c good x y z = absurd e.told
+complete_audit slots input left old new before now (BadMessage n) r0 r1 s0 s1 e a b c good x y z = absurd e.told
 
 pub audit_does :
     (slots : ℕ) (had left old new : Option (List ℕ)) (r0 r1 s0 s1 : ℕ) (before now : EngineCounts) (status : Status)

@@ -120,6 +120,7 @@ complete_at input left old new statuses.TooLong r r' s s' faults faults' e c goo
 complete_at input left old new statuses.Usage r r' s s' faults faults' e c good x y z = absurd e
 complete_at input left old new statuses.ShortRaw r r' s s' faults faults' e c good x y z = absurd e
 complete_at input left old new (statuses.NotARun n) r r' s s' faults faults' e c good x y z = absurd e
+complete_at input left old new (statuses.BadMessage n) r r' s s' faults faults' e c good x y z = absurd e
 complete_at input left old new (statuses.BadLine n) r r' s s' faults faults' e c good x y z = absurd e
 
 decode_completes :

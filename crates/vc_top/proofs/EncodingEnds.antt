@@ -124,6 +124,7 @@ complete_at options input left old new statuses.Usage r r' s s' faults faults' e
 complete_at options input left old new statuses.Damaged r r' s s' faults faults' e c good x y z = absurd e
 complete_at options input left old new (statuses.BadLine n) r r' s s' faults faults' e c good x y z = absurd e
 complete_at options input left old new (statuses.NotARun n) r r' s s' faults faults' e c good x y z = absurd e
+complete_at options input left old new (statuses.BadMessage n) r r' s s' faults faults' e c good x y z = absurd e
 
 encode_completes :
     (options : EncodeOptions) (had left old new : Option (List ℕ)) (status : Status) (r r' s s' : ℕ) (faults faults' : List ℕ)

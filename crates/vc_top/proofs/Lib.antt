@@ -2,6 +2,7 @@ mod LinesPrintTheScript
 mod LinesCarriedOut
 mod ScriptsEnd
 mod AuditsEnd
+mod WiresEnd
 mod ReadsJoin
 mod EncodingEnds
 mod SharingEnds

@@ -7,7 +7,7 @@ use Rattle.std.proofs.lemmas.List.{append-nil}
 use Rattle.vc_base.specs.Counts.{Rose}
 use Rattle.vc_model.specs.Script.{Asked}
 use Rattle.vc_top.specs.declared.status.Status.{Status}
-use Rattle.vc_top.specs.declared.status.Status.TheVariants.{Fine, Usage, ReadFault, WriteFault, BadLine, Damaged, ShortRaw, EngineFault, TooLong, NotARun, NoMemory}
+use Rattle.vc_top.specs.declared.status.Status.TheVariants.{Fine, Usage, ReadFault, WriteFault, BadLine, Damaged, ShortRaw, EngineFault, TooLong, NotARun, NoMemory, BadMessage}
 use Rattle.vc_top.specs.declared.input.ReadStop.TheVariants as reads
 use Rattle.vc_top.specs.Commands.{ScriptDoes}
 use Rattle.vc_top.specs.Engines.{OneRose}
@@ -43,6 +43,7 @@ of_lines slots input left old new before now TooLong end short lines_end = absur
 of_lines slots input left old new before now Damaged end short lines_end = absurd lines_end
 of_lines slots input left old new before now ShortRaw end short lines_end = absurd lines_end
 of_lines slots input left old new before now (NotARun n) end short lines_end = absurd lines_end
+of_lines slots input left old new before now (BadMessage n) end short lines_end = absurd lines_end
 
 pub script_read :
     (slots : ℕ) (had left old new : Option (List ℕ)) (script : List ℕ) (before now : EngineCounts) (status : Status) → WasRead longest_script had left script
@@ -72,7 +73,7 @@ no_memory slots (Some input) left old before now stopped =
 
 -- Causes
 
-rose_some : (n before now : ℕ) → 0 < n → RoseBy n before now → Rose before now
+pub rose_some : (n before now : ℕ) → 0 < n → RoseBy n before now → Rose before now
 rose_some n before now l (inl more) = inl (omega (arith, l, more))
 rose_some n before now l (inr top) = inr top
 
@@ -88,6 +89,7 @@ engine_cause slots ls old new before now NoMemory e is = absurd (cc)
 engine_cause slots ls old new before now Damaged e is = absurd (cc)
 engine_cause slots ls old new before now ShortRaw e is = absurd (cc)
 engine_cause slots ls old new before now (NotARun n) e is = absurd (cc)
+engine_cause slots ls old new before now (BadMessage n) e is = absurd (cc)
 
 pub never_usage : (slots : ℕ) (ls : List (List ℕ)) (old new : Option (List ℕ)) (before now : EngineCounts) (status : Status) → LinesEnd slots ls old new before now status → status ≡ Usage → ⊥
 never_usage slots ls old new before now EngineFault e is = cc
@@ -101,6 +103,7 @@ never_usage slots ls old new before now NoMemory e is = cc
 never_usage slots ls old new before now Damaged e is = e
 never_usage slots ls old new before now ShortRaw e is = e
 never_usage slots ls old new before now (NotARun n) e is = e
+never_usage slots ls old new before now (BadMessage n) e is = e
 
 pub never_read : (slots : ℕ) (ls : List (List ℕ)) (old new : Option (List ℕ)) (before now : EngineCounts) (status : Status) → LinesEnd slots ls old new before now status → status ≡ ReadFault → ⊥
 never_read slots ls old new before now EngineFault e is = cc
@@ -114,6 +117,7 @@ never_read slots ls old new before now NoMemory e is = cc
 never_read slots ls old new before now Damaged e is = e
 never_read slots ls old new before now ShortRaw e is = e
 never_read slots ls old new before now (NotARun n) e is = e
+never_read slots ls old new before now (BadMessage n) e is = e
 
 -- Completeness
 
@@ -146,6 +150,7 @@ complete_end slots input left old new before now Usage r0 r1 s0 s1 e a b c good 
 complete_end slots input left old new before now Damaged r0 r1 s0 s1 e a b c good x y z = absurd e
 complete_end slots input left old new before now ShortRaw r0 r1 s0 s1 e a b c good x y z = absurd e
 complete_end slots input left old new before now (NotARun n) r0 r1 s0 s1 e a b c good x y z = absurd e
+complete_end slots input left old new before now (BadMessage n) r0 r1 s0 s1 e a b c good x y z = absurd e
 complete_end slots input left old new before now ReadFault r0 r1 s0 s1 e a b c good x y z = absurd (x (a refl))
 complete_end slots input left old new before now WriteFault r0 r1 s0 s1 e a b c good x y z = absurd (y (b refl))
 complete_end slots input left old new before now EngineFault r0 r1 s0 s1 e a b c good x y z = absurd (z (c refl))

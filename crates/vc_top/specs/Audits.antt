@@ -11,7 +11,7 @@ use Rattle.vc_audit.specs.declared.verdict.Verdict.{Verdict}
 use Rattle.vc_audit.specs.declared.verdict.Verdict.TheVariants.{Yes, No}
 use Rattle.vc_audit.specs.Verdicts.{Judged, first_bad_line}
 use Rattle.vc_top.specs.declared.status.Status.{Status}
-use Rattle.vc_top.specs.declared.status.Status.TheVariants.{Fine, Usage, ReadFault, WriteFault, BadLine, Damaged, ShortRaw, EngineFault, TooLong, NotARun, NoMemory}
+use Rattle.vc_top.specs.declared.status.Status.TheVariants.{Fine, Usage, ReadFault, WriteFault, BadLine, Damaged, ShortRaw, EngineFault, TooLong, NotARun, NoMemory, BadMessage}
 use Rattle.vc_top.specs.Ends.{ReadAtMost}
 
 -- the most bytes of an audit's input
@@ -95,6 +95,7 @@ AuditTold slots input old new Usage = ⊥
 AuditTold slots input old new ReadFault = ⊥
 AuditTold slots input old new Damaged = ⊥
 AuditTold slots input old new ShortRaw = ⊥
+AuditTold slots input old new (BadMessage at) = ⊥
 
 -- The input was read to its end and isn't longer than it may be, and the audit ended so.
 pub record ReadAndTold (slots : ℕ) (input : List ℕ) (left old new : Option (List ℕ)) (status : Status) : Type 0 where

@@ -16,6 +16,7 @@ use Rattle.vc_top.specs.Encodes.{EncodeEnds, IsGoodRaw, frame_count}
 use Rattle.vc_top.specs.Ends.{ScriptEnds, IsGoodScript}
 use Rattle.vc_top.specs.Makes.{MakeEnds}
 use Rattle.vc_top.specs.Shares.{ShareEnds, share_count}
+use Rattle.vc_top.specs.Wires.{WireEnds, AreGoodMessages}
 use Rattle.vc_top.specs.Runs.{Run, OnInput, EnginesRan, EngineFailed, ReadFailed, WriteFailed, EndsWell}
 
 -- the counts of the first engine, on which a script runs its jobs
@@ -102,7 +103,23 @@ pub record AuditDoes (slots : ℕ) (run : Run) : Type 0 where
   pub completes : OnInput run (λ input.
       IsGoodAudit slots input → ¬ ReadFailed run → ¬ WriteFailed run → ¬ EngineFailed 1 run → EndsWithVerdict run)
 
--- What the program does where this command is asked for. Two are not built, and no words ask for them yet.
+-- how the wire of so many slots ends on this input
+abbrev pub WireEnded : ℕ → Run → List ℕ → Type 0
+WireEnded slots run input =
+    let before = run.before in
+    let after = run.after in
+    WireEnds slots input after.source.left before.sink.written after.sink.written (first_engine before.engines) (first_engine after.engines) run.status
+
+pub record WireDoes (slots : ℕ) (run : Run) : Type 0 where
+  -- The messages are answered and their replies are written, as far as the status tells.
+  pub ends : OnInput run (WireEnded slots run)
+  -- After EngineFault the first engine counts a fault more.
+  pub engine_fault : run.status ≡ EngineFault → EngineFailed 1 run
+  -- Whole messages, where nothing fails outside, end well.
+  pub completes : OnInput run (λ input.
+      AreGoodMessages input → ¬ ReadFailed run → ¬ WriteFailed run → ¬ EngineFailed 1 run → EndsWell run)
+
+-- What the program does where this command is asked for. One is not built, and no words ask for it yet.
 abbrev pub Does : Option Command → Run → Type 0
 Does None run = ⊤
 Does (Some (Script options)) run = ScriptDoes options.slots run
@@ -112,7 +129,7 @@ Does (Some (Make options)) run = MakeDoes options run
 Does (Some (Share options)) run = ShareDoes options run
 Does (Some (Transcode options)) run = ⊤
 Does (Some (Audit options)) run = AuditDoes options.slots run
-Does (Some (Wire options)) run = ⊤
+Does (Some (Wire options)) run = WireDoes options.slots run
 
 -- The words ask for no command.
 abbrev pub AsksNothing : Option Command → Type 0

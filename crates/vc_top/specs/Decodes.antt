@@ -6,7 +6,7 @@ use Rattle.vc_defs.specs.Outputs.{decode_output, is_damaged_input}
 use Rattle.vc_flow.specs.Inputs.{IsLong}
 use Rattle.vc_io.specs.Written.{AppendsFront}
 use Rattle.vc_top.specs.declared.status.Status.{Status}
-use Rattle.vc_top.specs.declared.status.Status.TheVariants.{Fine, Usage, ReadFault, WriteFault, BadLine, Damaged, ShortRaw, EngineFault, TooLong, NotARun, NoMemory}
+use Rattle.vc_top.specs.declared.status.Status.TheVariants.{Fine, Usage, ReadFault, WriteFault, BadLine, Damaged, ShortRaw, EngineFault, TooLong, NotARun, NoMemory, BadMessage}
 use Rattle.vc_top.specs.Engines.{OneRose}
 
 -- The input was read to its end. It has a damaged frame or a byte in no frame, or has not, and all its good pictures were
@@ -30,6 +30,7 @@ DecodeEnds input left old new Usage = ⊥
 DecodeEnds input left old new (BadLine line) = ⊥
 DecodeEnds input left old new ShortRaw = ⊥
 DecodeEnds input left old new (NotARun line) = ⊥
+DecodeEnds input left old new (BadMessage at) = ⊥
 
 -- a coded stream without damage and without a byte in no frame, of less than 2^40 bytes
 pub record IsGoodStream (input : List ℕ) : Type 0 where

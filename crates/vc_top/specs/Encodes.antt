@@ -9,7 +9,7 @@ use Rattle.vc_io.specs.Written.{AppendsFront}
 use Rattle.vc_words.specs.declared.command.RateOptions.{RateOptions}
 use Rattle.vc_words.specs.declared.command.EncodeOptions.{EncodeOptions}
 use Rattle.vc_top.specs.declared.status.Status.{Status}
-use Rattle.vc_top.specs.declared.status.Status.TheVariants.{Fine, Usage, ReadFault, WriteFault, BadLine, Damaged, ShortRaw, EngineFault, TooLong, NotARun, NoMemory}
+use Rattle.vc_top.specs.declared.status.Status.TheVariants.{Fine, Usage, ReadFault, WriteFault, BadLine, Damaged, ShortRaw, EngineFault, TooLong, NotARun, NoMemory, BadMessage}
 use Rattle.vc_top.specs.Engines.{OneRose}
 
 abbrev pub rates_in : RateOptions → RunRates
@@ -50,6 +50,7 @@ EncodeEnds options input left old new TooLong =
 EncodeEnds options input left old new Usage = ⊥
 EncodeEnds options input left old new (BadLine line) = ⊥
 EncodeEnds options input left old new (NotARun line) = ⊥
+EncodeEnds options input left old new (BadMessage at) = ⊥
 EncodeEnds options input left old new Damaged = ⊥
 
 -- whole pictures, and less than 2^40 bytes

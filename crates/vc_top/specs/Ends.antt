@@ -10,7 +10,7 @@ use Rattle.vc_model.specs.Coder.{the_coder}
 use Rattle.vc_model.specs.Script.{Asked, Prints, events_of_script}
 use Rattle.vc_script.specs.Texts.{reply_text}
 use Rattle.vc_top.specs.declared.status.Status.{Status}
-use Rattle.vc_top.specs.declared.status.Status.TheVariants.{Fine, Usage, ReadFault, WriteFault, BadLine, Damaged, ShortRaw, EngineFault, TooLong, NotARun, NoMemory}
+use Rattle.vc_top.specs.declared.status.Status.TheVariants.{Fine, Usage, ReadFault, WriteFault, BadLine, Damaged, ShortRaw, EngineFault, TooLong, NotARun, NoMemory, BadMessage}
 use Rattle.vc_desk.specs.Asking.{asks_line, asks_lines}
 use Rattle.vc_base.specs.Limits.{longest_script}
 use Rattle.vc_desk.specs.Carries.{finishes, IsCounted}
@@ -63,6 +63,7 @@ LinesEnd slots ls old new before now ReadFault = ⊥
 LinesEnd slots ls old new before now Damaged = ⊥
 LinesEnd slots ls old new before now ShortRaw = ⊥
 LinesEnd slots ls old new before now (NotARun line) = ⊥
+LinesEnd slots ls old new before now (BadMessage at) = ⊥
 LinesEnd slots ls old new before now TooLong = ⊥
 
 -- the whole input was read, it isn't too long, and its lines end so
@@ -99,6 +100,7 @@ ScriptEnds slots input left old new before now Usage = ⊥
 ScriptEnds slots input left old new before now Damaged = ⊥
 ScriptEnds slots input left old new before now ShortRaw = ⊥
 ScriptEnds slots input left old new before now (NotARun line) = ⊥
+ScriptEnds slots input left old new before now (BadMessage at) = ⊥
 
 -- a script that isn't too long, with every line in the grammar
 pub record IsGoodScript (slots : ℕ) (input : List ℕ) : Type 0 where

@@ -4,7 +4,8 @@ use Rattle.vc_base.specs.Counts.{Rose}
 use Rattle.vc_words.specs.declared.command.Command.{Command}
 use Rattle.vc_words.specs.declared.command.Command.TheVariants.{Script, Encode, Decode, Make, Share, Transcode, Audit, Wire}
 
--- How many engines of the list, from the first on, a command uses: one for each worker, and the first one for scripts and audits.
+-- How many engines of the list, from the first on, a command uses: one for each worker, and the first one for scripts, audits and
+-- the wire.
 abbrev pub engines_used : Option Command → ℕ
 engines_used None = 0
 engines_used (Some (Script options)) = 1

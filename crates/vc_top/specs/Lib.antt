@@ -13,4 +13,5 @@ pub mod Shares
 pub mod Slots
 pub mod Statuses
 pub mod Steps
+pub mod Wires
 pub mod Words

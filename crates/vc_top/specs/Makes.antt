@@ -5,7 +5,7 @@ use Rattle.vc_defs.specs.Outputs.{make_output}
 use Rattle.vc_io.specs.Written.{AppendsFront}
 use Rattle.vc_words.specs.declared.command.MakeOptions.{MakeOptions}
 use Rattle.vc_top.specs.declared.status.Status.{Status}
-use Rattle.vc_top.specs.declared.status.Status.TheVariants.{Fine, Usage, ReadFault, WriteFault, BadLine, Damaged, ShortRaw, EngineFault, TooLong, NotARun, NoMemory}
+use Rattle.vc_top.specs.declared.status.Status.TheVariants.{Fine, Usage, ReadFault, WriteFault, BadLine, Damaged, ShortRaw, EngineFault, TooLong, NotARun, NoMemory, BadMessage}
 
 -- the pictures that the options ask for
 abbrev pub pictures_of : MakeOptions → List ℕ
@@ -22,5 +22,6 @@ MakeEnds options old new (BadLine line) = ⊥
 MakeEnds options old new Damaged = ⊥
 MakeEnds options old new ShortRaw = ⊥
 MakeEnds options old new (NotARun line) = ⊥
+MakeEnds options old new (BadMessage at) = ⊥
 MakeEnds options old new EngineFault = ⊥
 MakeEnds options old new TooLong = ⊥

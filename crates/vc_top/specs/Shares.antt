@@ -13,7 +13,7 @@ use Rattle.vc_words.specs.declared.command.Command.TheVariants.{Share}
 use Rattle.vc_words.specs.declared.command.ShareOptions.{ShareOptions}
 use Rattle.vc_top.specs.declared.flows.ShareFlow.{ShareFlow}
 use Rattle.vc_top.specs.declared.status.Status.{Status}
-use Rattle.vc_top.specs.declared.status.Status.TheVariants.{Fine, Usage, ReadFault, WriteFault, BadLine, Damaged, ShortRaw, EngineFault, TooLong, NotARun, NoMemory}
+use Rattle.vc_top.specs.declared.status.Status.TheVariants.{Fine, Usage, ReadFault, WriteFault, BadLine, Damaged, ShortRaw, EngineFault, TooLong, NotARun, NoMemory, BadMessage}
 use Rattle.vc_top.specs.Engines.{OneRose}
 use Rattle.vc_top.specs.Words.{asked_command}
 
@@ -50,6 +50,7 @@ ShareEnds options old new (BadLine line) = ⊥
 ShareEnds options old new Damaged = ⊥
 ShareEnds options old new ShortRaw = ⊥
 ShareEnds options old new (NotARun line) = ⊥
+ShareEnds options old new (BadMessage at) = ⊥
 ShareEnds options old new TooLong = ⊥
 
 -- what runs in a context

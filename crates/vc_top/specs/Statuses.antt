@@ -1,7 +1,7 @@
 -- The exit status of the program, and what it says of its end on standard error.
 use Rattle.std.specs.Prelude.{ℕ, codes, List}
 use Rattle.vc_top.specs.declared.status.Status.{Status}
-use Rattle.vc_top.specs.declared.status.Status.TheVariants.{Fine, Usage, ReadFault, WriteFault, BadLine, Damaged, ShortRaw, EngineFault, TooLong, NotARun, NoMemory}
+use Rattle.vc_top.specs.declared.status.Status.TheVariants.{Fine, Usage, ReadFault, WriteFault, BadLine, Damaged, ShortRaw, EngineFault, TooLong, NotARun, NoMemory, BadMessage}
 
 abbrev pub status_number : Status → ℕ
 status_number Fine = 0
@@ -15,8 +15,9 @@ status_number EngineFault = 8
 status_number TooLong = 10
 status_number (NotARun line) = 11
 status_number NoMemory = 12
+status_number (BadMessage at) = 13
 
--- the words; where there is a line its number comes behind them
+-- the words; where there is a line or a byte, its number comes behind them
 abbrev pub status_text : Status → List ℕ
 status_text Fine = codes "fine"
 status_text Usage = codes "usage"
@@ -29,3 +30,4 @@ status_text EngineFault = codes "engine fault"
 status_text TooLong = codes "too long"
 status_text (NotARun line) = codes "not a run, line"
 status_text NoMemory = codes "no memory"
+status_text (BadMessage at) = codes "bad message at"

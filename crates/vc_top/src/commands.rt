@@ -16,6 +16,7 @@ use crate::input::{ReadStop, read_input};
 use crate::script::run_lines;
 use crate::share::share_run;
 use crate::status::Status;
+use crate::wire::serve_run;
 use std::alloc::Global;
 use std::sync::Wait;
 use std::thread::Threads;
@@ -71,7 +72,7 @@ fn make_run<K: Sink>(alloc: Global, options: &MakeOptions, sink: &mut K) -> Stat
 }
 
 /// Does all that the program does, on the words behind its name. It uses the first engines of the list, one for each
-/// worker and the first one for scripts and audits; 16 come back, and those not used are untouched. It may wait for its workers.
+/// worker and the first one for scripts, audits and the wire; 16 come back, and those not used are untouched. It may wait for its workers.
 ///
 /// What each command does stands in specs/Commands.antt, one record a command.
 pub fn top<R: Threads + Wait + Sync, S: Source, K: Sink, E: Engine + Send>(
@@ -106,6 +107,9 @@ pub fn top<R: Threads + Wait + Sync, S: Source, K: Sink, E: Engine + Send>(
         Some(Command::Share(options)) => share_run(rt, alloc, &options, sink, engines),
         Some(Command::Audit(options)) => {
             audit_run(alloc, options.slots, source, sink, &mut engines[0])
+        }
+        Some(Command::Wire(options)) => {
+            serve_run(alloc, options.slots, source, sink, &mut engines[0])
         }
         _ => Status::Usage,
     }

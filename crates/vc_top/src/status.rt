@@ -18,17 +18,20 @@ pub enum Status {
     Damaged,
     /// The raw input ends inside a picture. The frames of the whole ones were written. Exit status 7.
     ShortRaw,
-    /// An engine gave up in a job. A script was carried out to its end all the same; `encode` and `decode` stopped, and
-    /// `share` wrote nothing. Exit status 8.
+    /// An engine gave up in a job. A script and the messages of the wire were carried out to their end all the same;
+    /// `encode` and `decode` stopped, and `share` wrote nothing. Exit status 8.
     EngineFault,
-    /// The script has more than 1,048,576 bytes, the input of an audit more than 268,435,456, or 2^40 bytes of video were
-    /// read. Exit status 10.
+    /// The script has more than 1,048,576 bytes, the input of an audit more than 268,435,456, or 2^40 bytes of video or of
+    /// messages were read. Exit status 10.
     TooLong,
     /// The report isn't one that a device may print for the script. The line, counted from 1, is its first wrong one, and
     /// the verdict with it was written. Exit status 11.
     NotARun { line: u64 },
     /// A growth of memory was refused. Exit status 12.
     NoMemory,
+    /// At this byte of the input, counted from 0, a message begins whose length is out of range, or inside of which the
+    /// input ends. The messages before it were answered. Exit status 13.
+    BadMessage { at: u64 },
 }
 
 impl Status {
@@ -48,11 +51,12 @@ impl Status {
             Status::TooLong => 10,
             Status::NotARun { .. } => 11,
             Status::NoMemory => 12,
+            Status::BadMessage { .. } => 13,
         }
     }
 
-    /// What the program says of it on standard error. The number of the line comes behind it where there is one, and
-    /// nothing is said where the end is fine.
+    /// What the program says of it on standard error. The number of the line or of the byte comes behind it where there
+    /// is one, and nothing is said where the end is fine.
     pub fn text(self) -> &'static str
         ensures { result.now ≡ status_text self }
     {
@@ -68,6 +72,7 @@ impl Status {
             Status::TooLong => "too long",
             Status::NotARun { .. } => "not a run, line",
             Status::NoMemory => "no memory",
+            Status::BadMessage { .. } => "bad message at",
         }
     }
 }

@@ -84,6 +84,7 @@ fn report(rt: &impl Eprint, status: Status) -> io::Result<()> {
         Status::BadLine { line } | Status::NotARun { line } => {
             eprintln!(rt; "vicodec_run: {text} {line}")
         }
+        Status::BadMessage { at } => eprintln!(rt; "vicodec_run: {text} {at}"),
         _ => eprintln!(rt; "vicodec_run: {text}"),
     }
 }

@@ -11,6 +11,7 @@ mod faults;
 mod make;
 mod outside;
 mod share;
+mod wire;
 
 use std::alloc::Global;
 use std::sync::Wait;

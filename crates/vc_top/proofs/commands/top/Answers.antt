@@ -1,8 +1,9 @@
 use Rattle.std.proofs.Common.{◌≡◌, ◌<◌, sym, ap, ◌∙◌, subst, Some, length, arith}
-use Rattle.vc_words.specs.declared.command.Command.TheVariants.{Audit}
+use Rattle.vc_words.specs.declared.command.Command.TheVariants.{Audit, Wire}
 use Rattle.vc_top.specs.Runs.{asked, seen}
 use Rattle.vc_top.specs.Words.{only_built_command}
 use Rattle.vc_top.proofs.AuditsEnd.{audit_on_first, audit_asked}
+use Rattle.vc_top.proofs.WiresEnd.{wire_on_first, wire_asked}
 use Rattle.vc_top.proofs.commands.top.Goals as goal
 
 pub returns-in-Some-Audit-clause-does : goal.returns-in-Some-Audit-clause-does
@@ -13,3 +14,12 @@ returns-in-Some-Audit-clause-does g c =
     audit_asked (asked c.args.words.now) _ c.in-Some-Audit.options asks
     (audit_on_first g.E.Engine.run_count g.E.Engine.fault_count c.in-Some-Audit.options.slots _ _ _ _ _ _ _ _ _ c.audit_run.new.engine c.args.engines.now.items c.audit_run.result
     some c.index_mut-in-Some-Audit.ensures.value c.audit_run.ensures.does)
+
+pub returns-in-Some-Wire-clause-does : goal.returns-in-Some-Wire-clause-does
+returns-in-Some-Wire-clause-does g c =
+    let same = c.in-Some-Wire.is ∙ ap Some c.in-Some-Wire.field-0-is in
+    let asks : asked c.args.words.now ≡ Some (Wire c.in-Some-Wire.options) = ap only_built_command (sym c.read_words.ensures.meaning ∙ same) in
+    let some : 0 < length c.args.engines.now.items = omega (arith, c.requires, c.args.engines.now.ok.0) in
+    wire_asked (asked c.args.words.now) _ c.in-Some-Wire.options asks
+    (wire_on_first g.E.Engine.run_count g.E.Engine.fault_count c.in-Some-Wire.options.slots _ _ _ _ _ _ _ _ _ c.serve_run.new.engine c.args.engines.now.items c.serve_run.result
+    some c.index_mut-in-Some-Wire.ensures.value c.serve_run.ensures.does)
