@@ -83,7 +83,8 @@ int refuse(int number);                 /* sets errno and is -1 */
 
 /* settings.c: the environment, as it was at the first use. */
 enum supply {
-    SUPPLY_COLOURS, SUPPLY_FLAGS, SUPPLY_CLAMP, SUPPLY_ACCESS, SUPPLY_SIZE, SUPPLY_LEAST, SUPPLY_EVENTS, SUPPLY_RESTART
+    SUPPLY_COLOURS, SUPPLY_FLAGS, SUPPLY_CLAMP, SUPPLY_ACCESS, SUPPLY_SIZE, SUPPLY_LEAST, SUPPLY_EVENTS, SUPPLY_RESTART,
+    SUPPLY_FRAME
 };
 bool supplies(enum supply what);
 uint32_t coded_fourcc(void);            /* the name under which clients see the coded format */

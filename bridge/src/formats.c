@@ -152,6 +152,25 @@ static uint32_t asked_size(const struct node *node, int side, const struct v4l2_
     return pix->sizeimage < LONGEST_CODED ? pix->sizeimage : LONGEST_CODED;
 }
 
+/*
+ * The size to ask the device for. On a decoder's OUTPUT it is never less than the device's own: some clients ask for half a
+ * picture and then cut longer frames off, and drivers that know how long a frame can be don't let them.
+ */
+static uint32_t size_for_device(struct node *node, int side, const struct v4l2_pix_format *pix)
+{
+    struct reply reply;
+
+    if (node->kind != DECODER || side != OUT)
+        return 0;
+    if (supplies(SUPPLY_FRAME) && ASK(&reply, OP_TRY_FMT, node->slot, (uint32_t)side, name_to_wire(pix->pixelformat),
+                                      pix->width, pix->height, 0) == 0) {
+        uint32_t least = format_of(&reply).size;
+
+        return pix->sizeimage > least ? pix->sizeimage : least;
+    }
+    return pix->sizeimage;
+}
+
 static int adjust(struct node *node, struct v4l2_format *format, bool is_set)
 {
     int side = side_of(format->type);
@@ -164,7 +183,7 @@ static int adjust(struct node *node, struct v4l2_format *format, bool is_set)
     if (side < 0)
         return refuse(EINVAL);
     if (ASK(&reply, is_set ? OP_SET_FMT : OP_TRY_FMT, node->slot, (uint32_t)side, name_to_wire(pix->pixelformat),
-            pix->width, pix->height, node->kind == DECODER && side == OUT ? pix->sizeimage : 0) != 0)
+            pix->width, pix->height, size_for_device(node, side, pix)) != 0)
         return -1;
     present = format_of(&reply);
     put_format(&present, present.size > asked ? present.size : asked, &colours, format);

@@ -7,6 +7,7 @@
 static const char *const supply_names[] = {
     [SUPPLY_COLOURS] = "colours", [SUPPLY_FLAGS] = "flags", [SUPPLY_CLAMP] = "clamp", [SUPPLY_ACCESS] = "access",
     [SUPPLY_SIZE] = "size", [SUPPLY_LEAST] = "least", [SUPPLY_EVENTS] = "events", [SUPPLY_RESTART] = "restart",
+    [SUPPLY_FRAME] = "frame",
 };
 
 static pthread_once_t once = PTHREAD_ONCE_INIT;
