@@ -65,7 +65,7 @@ struct node {
     uint32_t event_sequence;
     uint32_t watched;                   /* a bit for each entry of the table of controls */
     uint32_t watch_flags[WATCHED];
-    struct v4l2_event pending[CONTROL_EVENTS];  /* events of controls, which the device has not */
+    struct v4l2_event pending[CONTROL_EVENTS];  /* that the device has not, or no longer has */
     uint32_t pending_count;
     uint32_t priority;
 };
@@ -133,6 +133,7 @@ int queue_buffer(struct node *node, int fd, struct v4l2_buffer *buffer);
 int dequeue_buffer(struct node *node, int fd, struct v4l2_buffer *buffer);
 int stream(struct node *node, int fd, bool is_on, uint32_t type);
 int subscribe(struct node *node, int fd, struct v4l2_event_subscription *subscription, bool is_on);
+void hide_change(struct node *node);
 int dequeue_event(struct node *node, int fd, struct v4l2_event *event);
 int control_call(struct node *node, unsigned long request, void *argument);
 int control_watch(struct node *node, struct v4l2_event_subscription *subscription, bool is_on);

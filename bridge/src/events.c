@@ -45,6 +45,25 @@ static int take_device_event(struct node *node, struct v4l2_event *event)
     return 0;
 }
 
+/*
+ * The newest change of source goes, with the stop that is hidden: a client that acts on it would drop pictures. What else
+ * the device has pending waits here from now on.
+ */
+void hide_change(struct node *node)
+{
+    struct v4l2_event event[CONTROL_EVENTS];
+    uint32_t count = 0, newest = CONTROL_EVENTS;
+
+    while (count < CONTROL_EVENTS && take_device_event(node, &event[count]) == 0) {
+        if (event[count].type == V4L2_EVENT_SOURCE_CHANGE)
+            newest = count;
+        count++;
+    }
+    for (uint32_t i = 0; i < count; i++)
+        if (i != newest && node->pending_count < CONTROL_EVENTS)
+            node->pending[node->pending_count++] = event[i];
+}
+
 static int take_event(struct node *node, struct v4l2_event *event)
 {
     if (node->pending_count == 0)

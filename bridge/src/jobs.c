@@ -18,8 +18,10 @@ static void see_change(struct node *node)
 
     if (device_format(node, CAP, &node->capture) != 0)
         return;
-    if (supplies(SUPPLY_RESTART) && node->queue[CAP].is_streaming && is_same(&before, &node->capture))
+    if (supplies(SUPPLY_RESTART) && node->queue[CAP].is_streaming && is_same(&before, &node->capture)) {
         node->has_hidden_stop = true;
+        hide_change(node);
+    }
 }
 
 /* Whether the LAST buffer is the one buffer that CAPTURE has done, and which it is. */

@@ -274,7 +274,9 @@ int main(int argc, char **argv)
 	struct client c = { .piece = 5000 };
 	FILE *in = fopen(argv[2], "r");
 	size_t to = 0;
-	char *bytes = malloc(1 << 26);
+	static char *bytes;
+
+	bytes = malloc(1 << 26);
 
 	NEED(argc > 3 && in && bytes);
 	c.length = fread(bytes, 1, 1 << 26, in);
