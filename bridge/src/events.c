@@ -16,6 +16,17 @@ static int unsubscribe_all(struct node *node)
     return 0;
 }
 
+/* What waits here of a type that is no longer asked for goes, as it does in the device. */
+static void drop_type(struct node *node, uint32_t type)
+{
+    uint32_t kept = 0;
+
+    for (uint32_t i = 0; i < node->pending_count; i++)
+        if (node->pending[i].type != type)
+            node->pending[kept++] = node->pending[i];
+    node->pending_count = kept;
+}
+
 int subscribe(struct node *node, int fd, struct v4l2_event_subscription *subscription, bool is_on)
 {
     struct reply reply;
@@ -27,6 +38,8 @@ int subscribe(struct node *node, int fd, struct v4l2_event_subscription *subscri
         result = unsubscribe_all(node);
     else
         result = ASK(&reply, is_on ? OP_SUBSCRIBE : OP_UNSUBSCRIBE, node->slot, subscription->type);
+    if (result == 0 && !is_on && subscription->type != V4L2_EVENT_CTRL)
+        drop_type(node, subscription->type);
     show_ready(node, fd);
     return result;
 }
