@@ -65,7 +65,7 @@ struct node {
     uint32_t event_sequence;
     uint32_t watched;                   /* a bit for each entry of the table of controls */
     uint32_t watch_flags[WATCHED];
-    struct v4l2_event pending[CONTROL_EVENTS];  /* that the device has not, or no longer has */
+    struct v4l2_event pending[CONTROL_EVENTS];  /* events of controls, which the device has not */
     uint32_t pending_count;
     uint32_t priority;
 };
@@ -117,6 +117,7 @@ void *memory_map(struct node *node, void *at, size_t length, int prot, int flags
 /* jobs.c: jobs, and stops that a client does not see. */
 void run_jobs(struct node *node, int fd);   /* after a call that may have made some ready */
 void step_made(struct node *node, int fd);  /* after any other; shows what came of it, and wakes those that wait */
+bool pass_hidden_stop(struct node *node);
 
 /* The ioctls. Each is 0, or -1 with errno; all are called with the lock held. fd is the descriptor that was used. */
 int call(struct node *node, int fd, unsigned long request, void *argument);
@@ -133,7 +134,6 @@ int queue_buffer(struct node *node, int fd, struct v4l2_buffer *buffer);
 int dequeue_buffer(struct node *node, int fd, struct v4l2_buffer *buffer);
 int stream(struct node *node, int fd, bool is_on, uint32_t type);
 int subscribe(struct node *node, int fd, struct v4l2_event_subscription *subscription, bool is_on);
-void hide_change(struct node *node);
 int dequeue_event(struct node *node, int fd, struct v4l2_event *event);
 int control_call(struct node *node, unsigned long request, void *argument);
 int control_watch(struct node *node, struct v4l2_event_subscription *subscription, bool is_on);
@@ -146,6 +146,8 @@ void extras_keep(struct node *node, const struct v4l2_buffer *buffer);
 void extras_add(const struct node *node, struct v4l2_buffer *buffer, uint64_t stamp);
 uint64_t stamp_of(const struct timeval *time);
 struct timeval time_of(uint64_t stamp);
+
+void close_own(int fd);                 /* take_files.c: closes what is no node */
 
 /* media.c: 1 where the descriptor is no media device of ours. */
 int media_open(const char *path);

@@ -18,7 +18,7 @@ static int query_capabilities(const struct node *node, struct v4l2_capability *c
     return 0;
 }
 
-/* START is 0 and STOP is 1 for both kinds. While a stop is hidden from the client, it need not be started again. */
+/* START is 0 and STOP is 1 for both kinds. START ends a hidden stop, or the call that meets its LAST buffer will. */
 static int command(struct node *node, int fd, enum kind kind, uint32_t number, bool is_try)
 {
     struct reply reply;
@@ -27,9 +27,11 @@ static int command(struct node *node, int fd, enum kind kind, uint32_t number, b
         return refuse(ENOTTY);
     if (number > 1)
         return refuse(EINVAL);
-    if (is_try || (number == 0 && node->has_hidden_stop))
+    if (is_try)
         return 0;
-    if (ASK(&reply, kind == DECODER ? OP_DEC_CMD : OP_ENC_CMD, node->slot, number) != 0)
+    if (number == 0 && node->has_hidden_stop)
+        pass_hidden_stop(node);
+    else if (ASK(&reply, kind == DECODER ? OP_DEC_CMD : OP_ENC_CMD, node->slot, number) != 0)
         return -1;
     run_jobs(node, fd);
     return 0;

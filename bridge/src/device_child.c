@@ -9,7 +9,6 @@
 #include <stdlib.h>
 #include <string.h>
 #include <sys/socket.h>
-#include <sys/syscall.h>
 #include <sys/uio.h>
 #include <unistd.h>
 
@@ -69,8 +68,8 @@ bool device_start(void)
         if (line < 0)
             line = fcntl(pair[0], F_DUPFD_CLOEXEC, 3);
     }
-    syscall(SYS_close, pair[0]);
-    syscall(SYS_close, pair[1]);
+    close_own(pair[0]);
+    close_own(pair[1]);
     return line >= 0;
 }
 

@@ -16,17 +16,6 @@ static int unsubscribe_all(struct node *node)
     return 0;
 }
 
-/* What waits here of a type that is no longer asked for goes, as it does in the device. */
-static void drop_type(struct node *node, uint32_t type)
-{
-    uint32_t kept = 0;
-
-    for (uint32_t i = 0; i < node->pending_count; i++)
-        if (node->pending[i].type != type)
-            node->pending[kept++] = node->pending[i];
-    node->pending_count = kept;
-}
-
 int subscribe(struct node *node, int fd, struct v4l2_event_subscription *subscription, bool is_on)
 {
     struct reply reply;
@@ -38,8 +27,6 @@ int subscribe(struct node *node, int fd, struct v4l2_event_subscription *subscri
         result = unsubscribe_all(node);
     else
         result = ASK(&reply, is_on ? OP_SUBSCRIBE : OP_UNSUBSCRIBE, node->slot, subscription->type);
-    if (result == 0 && !is_on && subscription->type != V4L2_EVENT_CTRL)
-        drop_type(node, subscription->type);
     show_ready(node, fd);
     return result;
 }
@@ -56,25 +43,6 @@ static int take_device_event(struct node *node, struct v4l2_event *event)
         event->u.src_change.changes = word(&reply, 3);
     event->pending = word(&reply, 4);
     return 0;
-}
-
-/*
- * The newest change of source goes, with the stop that is hidden: a client that acts on it would drop pictures. What else
- * the device has pending waits here from now on.
- */
-void hide_change(struct node *node)
-{
-    struct v4l2_event event[CONTROL_EVENTS];
-    uint32_t count = 0, newest = CONTROL_EVENTS;
-
-    while (count < CONTROL_EVENTS && take_device_event(node, &event[count]) == 0) {
-        if (event[count].type == V4L2_EVENT_SOURCE_CHANGE)
-            newest = count;
-        count++;
-    }
-    for (uint32_t i = 0; i < count; i++)
-        if (i != newest && node->pending_count < CONTROL_EVENTS)
-            node->pending[node->pending_count++] = event[i];
 }
 
 static int take_event(struct node *node, struct v4l2_event *event)

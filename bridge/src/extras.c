@@ -3,6 +3,7 @@
 
 #define CARRIED (V4L2_BUF_FLAG_TIMECODE | V4L2_BUF_FLAG_TSTAMP_SRC_MASK)
 
+/* Clients have times before 0 too, of which the part below a second counts forwards. */
 uint64_t stamp_of(const struct timeval *time)
 {
     return (uint64_t)time->tv_sec * 1000000000u + (uint64_t)time->tv_usec * 1000u;
@@ -10,7 +11,13 @@ uint64_t stamp_of(const struct timeval *time)
 
 struct timeval time_of(uint64_t stamp)
 {
-    return (struct timeval){(time_t)(stamp / 1000000000u), (suseconds_t)(stamp % 1000000000u / 1000u)};
+    int64_t part = (int64_t)stamp % 1000000000, second = (int64_t)stamp / 1000000000;
+
+    if (part < 0) {
+        part += 1000000000;
+        second--;
+    }
+    return (struct timeval){(time_t)second, (suseconds_t)(part / 1000)};
 }
 
 void extras_keep(struct node *node, const struct v4l2_buffer *buffer)

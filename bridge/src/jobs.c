@@ -1,7 +1,8 @@
 /*
- * Jobs, and the stop that a client does not see: where CAPTURE streamed before a decoder's first header, and the format that
- * this header brings is the one that CAPTURE had, the device stops CAPTURE with an empty LAST buffer. Here this buffer is
- * taken and queued again, and the device started again, before the client can see it.
+ * Jobs, and the stop that a client need not see: where CAPTURE streamed before a decoder's first header, and the format that
+ * this header brings is the one that CAPTURE had, the device stops CAPTURE with an empty LAST buffer all the same. A client
+ * that restarts CAPTURE on the event does so, and loses no picture. For one that goes on, with START or by dequeuing, this
+ * buffer is taken and queued again, and the device is started, before the client sees anything of it.
  */
 #include "bridge.h"
 #include "message.h"
@@ -18,10 +19,8 @@ static void see_change(struct node *node)
 
     if (device_format(node, CAP, &node->capture) != 0)
         return;
-    if (supplies(SUPPLY_RESTART) && node->queue[CAP].is_streaming && is_same(&before, &node->capture)) {
+    if (supplies(SUPPLY_RESTART) && node->queue[CAP].is_streaming && is_same(&before, &node->capture))
         node->has_hidden_stop = true;
-        hide_change(node);
-    }
 }
 
 /* Whether the LAST buffer is the one buffer that CAPTURE has done, and which it is. */
@@ -50,7 +49,20 @@ static void requeue(struct queue *queue, uint32_t index)
     queue->order[queue->last++ % BUFFERS] = index;
 }
 
-static bool pass_hidden_stop(struct node *node)
+static void work(void)
+{
+    struct ended_job job;
+
+    while (device_work(&job)) {
+        struct node *node = node_of_slot(job.slot);
+
+        if (node && job.end == CHANGED)
+            see_change(node);
+    }
+}
+
+/* True where there was one, and it is passed. */
+bool pass_hidden_stop(struct node *node)
 {
     struct queue *queue = &node->queue[CAP];
     struct reply reply;
@@ -68,25 +80,12 @@ static bool pass_hidden_stop(struct node *node)
     ASK(&reply, OP_DEC_CMD, node->slot, V4L2_DEC_CMD_START);
     ASK(&reply, OP_QBUF_CAP, node->slot, index);
     requeue(queue, index);
+    work();
     return true;
-}
-
-static void work(void)
-{
-    struct ended_job job;
-
-    while (device_work(&job)) {
-        struct node *node = node_of_slot(job.slot);
-
-        if (node && job.end == CHANGED)
-            see_change(node);
-    }
 }
 
 void step_made(struct node *node, int fd)
 {
-    while (pass_hidden_stop(node))
-        work();
     show_ready(node, fd);
     ring();
 }

@@ -5,7 +5,6 @@
 #include <fcntl.h>
 #include <stdio.h>
 #include <sys/mman.h>
-#include <sys/syscall.h>
 #include <unistd.h>
 
 /* What this process has of a queue's memory; a forked child goes on with a copy. */
@@ -26,7 +25,7 @@ static void forget(struct local *local)
 {
     if (local->generation) {
         munmap(local->map, (size_t)1 << QUEUE_BITS);
-        syscall(SYS_close, local->memory);
+        close_own(local->memory);
     }
     local->generation = 0;
 }
@@ -39,7 +38,7 @@ static bool remember(struct local *local, int memory, uint32_t generation)
         return false;
     map = mmap(NULL, (size_t)1 << QUEUE_BITS, PROT_READ | PROT_WRITE, MAP_SHARED | MAP_NORESERVE, memory, 0);
     if (map == MAP_FAILED) {
-        syscall(SYS_close, memory);
+        close_own(memory);
         return false;
     }
     *local = (struct local){generation, memory, map};

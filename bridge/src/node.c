@@ -71,7 +71,7 @@ void nodes_reap(void)
 
         if (!held[i] || (is_ours && !is_left(held_peer[i])))
             continue;
-        syscall(SYS_close, held_peer[i]);
+        close_own(held_peer[i]);
         held[i] = 0;
         if (!is_ours)
             continue;

@@ -7,7 +7,6 @@
 #include "message.h"
 #include <fcntl.h>
 #include <sys/socket.h>
-#include <sys/syscall.h>
 #include <unistd.h>
 
 enum { FILLER = 2048 };     /* so much in the least send buffer makes a socket not writable */
@@ -38,7 +37,7 @@ bool descriptor_make(struct node *node, int pair[2])
     fill(pair[0]);
     peer = fcntl(pair[1], F_DUPFD_CLOEXEC, 900);    /* out of the way of the client's own */
     if (peer >= 0) {
-        syscall(SYS_close, pair[1]);
+        close_own(pair[1]);
         pair[1] = peer;
     }
     node->is_readable = node->is_writable = node->is_urgent = false;

@@ -22,9 +22,7 @@ static int queue_output(struct node *node, const struct v4l2_buffer *buffer, str
         return refuse(ENODEV);
     if (ask_qbuf(payload, buffer->bytesused, node->slot, own->index, stamp_of(&buffer->timestamp)) != 0)
         return -1;
-    own->flags = V4L2_BUF_FLAG_TIMESTAMP_COPY | (own->flags & V4L2_BUF_FLAG_MAPPED);
-    if (supplies(SUPPLY_FLAGS))
-        own->flags |= buffer->flags & CARRIED_FLAGS;
+    own->flags = V4L2_BUF_FLAG_TIMESTAMP_COPY | (own->flags & V4L2_BUF_FLAG_MAPPED) | (buffer->flags & CARRIED_FLAGS);
     own->bytesused = buffer->bytesused;
     own->timestamp = buffer->timestamp;
     own->timecode = buffer->timecode;
@@ -69,12 +67,14 @@ int queue_buffer(struct node *node, int fd, struct v4l2_buffer *buffer)
 static int take(struct node *node, int side, struct reply *reply)
 {
     struct queue *queue = &node->queue[side];
-    uint32_t expected = queue->order[queue->first % BUFFERS];
+    uint32_t expected;
     uint8_t *room;
     size_t length;
 
     if (side == OUT || queue->queued == 0)
         return ASK(reply, OP_DQBUF, node->slot, (uint32_t)side);
+    pass_hidden_stop(node);
+    expected = queue->order[queue->first % BUFFERS];
     room = memory_of(node, CAP, expected);
     if (!room)
         return refuse(ENODEV);

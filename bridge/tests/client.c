@@ -274,9 +274,7 @@ int main(int argc, char **argv)
 	struct client c = { .piece = 5000 };
 	FILE *in = fopen(argv[2], "r");
 	size_t to = 0;
-	static char *bytes;
-
-	bytes = malloc(1 << 26);
+	char *bytes = malloc(1 << 26);
 
 	NEED(argc > 3 && in && bytes);
 	c.length = fread(bytes, 1, 1 << 26, in);
@@ -286,6 +284,7 @@ int main(int argc, char **argv)
 		c.piece = atoi(getenv("PIECE"));
 	if (!strcmp(argv[1], "threads")) {
 		run_threads(&c, argv[3]);
+		free(bytes);
 		return 0;
 	}
 	start(&c, "/dev/video41", O_NONBLOCK);
@@ -296,9 +295,11 @@ int main(int argc, char **argv)
 			run(&c, c.length);
 			fclose(c.sink);
 			printf("child: %u pictures\n", c.pictures);
+			free(bytes);
 			exit(0);
 		}
 		wait(&status);
+		free(bytes);
 		return WEXITSTATUS(status);
 	}
 	if (!strcmp(argv[1], "seek")) {
@@ -351,5 +352,6 @@ int main(int argc, char **argv)
 	}
 	printf("%u pictures, %u changes, %u errors, eos event %d\n", c.pictures, c.changes, c.errors, events(&c) || c.eos);
 	fclose(c.sink);
+	free(bytes);
 	return 0;
 }
