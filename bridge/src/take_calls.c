@@ -76,7 +76,8 @@ static void *map_node(void *at, size_t length, int prot, int flags, int fd, off_
 
 /* The thread sanitizer's own start maps memory before a function can be watched by it. */
 #define MMAP(name)                                                                                                    \
-    __attribute__((no_sanitize("thread"))) void *name(void *at, size_t length, int prot, int flags, int fd, off_t offset)                                    \
+    __attribute__((no_sanitize("thread")))                                                                            \
+    void *name(void *at, size_t length, int prot, int flags, int fd, off_t offset)                                    \
     {                                                                                                                 \
         if (fd >= 0 && node_of(fd))                                                                                   \
             return map_node(at, length, prot, flags, fd, offset);                                                     \
