@@ -80,6 +80,7 @@ bool wait_for_ring(void);               /* with the lock held; false with errno 
 bool exchange_begin(void);              /* false: an exchange of a message for its reply was broken off before */
 bool exchange_end(bool is_whole);
 int refuse(int number);                 /* sets errno and is -1 */
+void close_own(int fd);                 /* closes what is no node */
 
 /* settings.c: the environment, as it was at the first use. */
 enum supply {
@@ -146,8 +147,6 @@ void extras_keep(struct node *node, const struct v4l2_buffer *buffer);
 void extras_add(const struct node *node, struct v4l2_buffer *buffer, uint64_t stamp);
 uint64_t stamp_of(const struct timeval *time);
 struct timeval time_of(uint64_t stamp);
-
-void close_own(int fd);                 /* take_files.c: closes what is no node */
 
 /* media.c: 1 where the descriptor is no media device of ours. */
 int media_open(const char *path);

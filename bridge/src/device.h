@@ -10,7 +10,6 @@
 #include <stdint.h>
 
 enum {
-    SLOTS = 256,
     ROOM = 17694793,    /* of any reply */
     SHORT_ROOM = 29     /* of any reply but that to a DqBuf on CAPTURE */
 };
@@ -23,8 +22,8 @@ struct ended_job {
     uint8_t end;
 };
 
-/* Gets the device ready for this process; once is enough. False with errno: there is none. */
-bool device_start(void);
+/* Gets a device of so many slots ready for this process; once is enough. False: there is none. */
+bool device_start(uint32_t slots);
 
 /*
  * Answers one message. The reply goes to the room, which has ROOM bytes for a DqBuf on CAPTURE and else SHORT_ROOM; its
@@ -32,7 +31,7 @@ bool device_start(void);
  */
 bool device_answer(const uint8_t *body, size_t size, uint8_t *room, size_t *reply_size);
 
-/* Runs one job, if there is one that is ready, of whatever slot. False: none was. */
+/* Runs one job, if there is one that is ready, of whatever slot, or tells one that another process ran. False: none. */
 bool device_work(struct ended_job *job);
 
 #endif

@@ -1,20 +1,23 @@
-/* The device as a child process: `vicodec_run wire` at the other end of a socket. A job runs inside of a call. */
+/*
+ * The device is in another process: a child, `vicodec_run wire`, whose jobs run inside of our calls, or a broker at
+ * BRIDGE_SOCKET, which runs jobs by itself and tells us of those that ended.
+ */
 #define _GNU_SOURCE
 #include "bridge.h"
+#include "line.h"
 #include "message.h"
 #include <errno.h>
-#include <fcntl.h>
 #include <spawn.h>
 #include <stdio.h>
 #include <stdlib.h>
 #include <string.h>
 #include <sys/socket.h>
-#include <sys/uio.h>
+#include <sys/un.h>
 #include <unistd.h>
 
 extern char **environ;
 
-static int line = -1;   /* to the device */
+static bool is_started, is_brokered;
 
 /* The environment without the words that would put the bridge before the child too. */
 static char **plain_environment(void)
@@ -31,11 +34,11 @@ static char **plain_environment(void)
     return plain;
 }
 
-static bool spawn(int end)
+static bool spawn(int end, uint32_t slots)
 {
     const char *program = getenv("BRIDGE_PROGRAM");
-    char slots[16];
-    char *words[] = {(char *)(program ? program : "vicodec_run"), "wire", "--slots", slots, NULL};
+    char number[16];
+    char *words[] = {(char *)(program ? program : "vicodec_run"), "wire", "--slots", number, NULL};
     char **environment = plain_environment();
     posix_spawn_file_actions_t actions;
     pid_t child;
@@ -43,7 +46,7 @@ static bool spawn(int end)
 
     if (!environment)
         return false;
-    snprintf(slots, sizeof(slots), "%d", SLOTS);
+    snprintf(number, sizeof(number), "%u", (unsigned)slots);
     posix_spawn_file_actions_init(&actions);
     posix_spawn_file_actions_adddup2(&actions, end, 0);
     posix_spawn_file_actions_adddup2(&actions, end, 1);
@@ -55,94 +58,53 @@ static bool spawn(int end)
     return !failed;
 }
 
-bool device_start(void)
+static bool start_child(uint32_t slots)
 {
     int pair[2];
+    bool is_done;
 
-    if (line >= 0)
-        return true;
     if (socketpair(AF_UNIX, SOCK_STREAM | SOCK_CLOEXEC, 0, pair) != 0)
         return false;
-    if (spawn(pair[1])) {
-        line = fcntl(pair[0], F_DUPFD_CLOEXEC, 900);    /* out of the way of the client's own */
-        if (line < 0)
-            line = fcntl(pair[0], F_DUPFD_CLOEXEC, 3);
-    }
+    is_done = spawn(pair[1], slots) && line_take(pair[0]);
     close_own(pair[0]);
     close_own(pair[1]);
-    return line >= 0;
+    return is_done;
 }
 
-static bool write_all(struct iovec *part, unsigned count)
+static bool start_brokered(const char *path)
 {
-    while (count > 0) {
-        struct msghdr message = {.msg_iov = part, .msg_iovlen = count};
-        ssize_t sent = sendmsg(line, &message, MSG_NOSIGNAL);
+    struct sockaddr_un address = {.sun_family = AF_UNIX};
+    int fd = socket(AF_UNIX, SOCK_STREAM | SOCK_CLOEXEC, 0);
+    bool is_done;
 
-        if (sent < 0 && errno == EINTR)
-            continue;
-        if (sent < 0)
-            return false;
-        for (; count > 0 && (size_t)sent >= part->iov_len; part++, count--)
-            sent -= (ssize_t)part->iov_len;
-        if (count > 0) {
-            part->iov_base = (char *)part->iov_base + sent;
-            part->iov_len -= (size_t)sent;
-        }
-    }
-    return true;
-}
-
-static bool read_all(void *into, size_t length)
-{
-    for (size_t done = 0; done < length;) {
-        ssize_t got = recv(line, (char *)into + done, length - done, MSG_WAITALL);
-
-        if (got < 0 && errno == EINTR)
-            continue;
-        if (got <= 0)
-            return false;
-        done += (size_t)got;
-    }
-    return true;
-}
-
-static bool read_reply(uint8_t *room, size_t most, size_t *size)
-{
-    uint8_t length[4];
-
-    if (!read_all(length, sizeof(length)))
+    strncpy(address.sun_path, path, sizeof(address.sun_path) - 1);
+    if (fd < 0)
         return false;
-    *size = get_word(length);
-    return *size >= 1 && *size <= most && read_all(room, *size);
+    is_done = connect(fd, (struct sockaddr *)&address, sizeof(address)) == 0;
+    if (!is_done)
+        fprintf(stderr, "bridge: no broker at %s: %s\n", path, strerror(errno));
+    is_done = is_done && line_take(fd);
+    close_own(fd);
+    return is_done;
+}
+
+bool device_start(uint32_t slots)
+{
+    const char *path = getenv("BRIDGE_SOCKET");
+
+    if (is_started)
+        return true;
+    is_brokered = path != NULL;
+    is_started = path ? start_brokered(path) : start_child(slots);
+    return is_started;
 }
 
 bool device_answer(const uint8_t *body, size_t size, uint8_t *room, size_t *reply_size)
 {
-    uint8_t length[4];
-    struct iovec part[2] = {{length, sizeof(length)}, {(void *)body, size}};
-
-    put_word(length, (uint32_t)size);
-    if (!exchange_begin())
-        return false;
-    return exchange_end(write_all(part, 2) &&
-                        read_reply(room, body[0] == OP_DQBUF && body[8] == CAP ? ROOM : SHORT_ROOM, reply_size));
+    return line_exchange(body, size, room, body[0] == OP_DQBUF && body[8] == CAP ? ROOM : SHORT_ROOM, reply_size);
 }
 
-/* A claim and a finish in one piece: a finish without a job does nothing. */
 bool device_work(struct ended_job *job)
 {
-    uint8_t bytes[] = {0, 0, 0, 5, OP_CLAIM, 0, 0, 0, 0, 0, 0, 0, 5, OP_FINISH, 0, 0, 0, 0};
-    struct iovec part = {bytes, sizeof(bytes)};
-    uint8_t claimed[SHORT_ROOM], finished[SHORT_ROOM];
-    size_t size;
-
-    if (!exchange_begin())
-        return false;
-    if (!exchange_end(write_all(&part, 1) && read_reply(claimed, SHORT_ROOM, &size) &&
-                      read_reply(finished, SHORT_ROOM, &size)))
-        return false;
-    job->slot = get_word(finished + 1);
-    job->end = finished[5];
-    return finished[0] == REPLY_FINISHED;
+    return is_brokered ? line_told(job) : line_run_job(job);
 }

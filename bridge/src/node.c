@@ -81,19 +81,6 @@ void nodes_reap(void)
     }
 }
 
-static int take_slot(struct node *node)
-{
-    struct reply reply;
-
-    for (node->slot = 0; node->slot < SLOTS; node->slot++) {
-        if (ASK(&reply, OP_OPEN, node->slot, node->kind) == 0)
-            return device_format(node, CAP, &node->capture);
-        if (errno != EBUSY)
-            return -1;
-    }
-    return refuse(EBUSY);
-}
-
 static void reset(struct node *node, enum kind kind)
 {
     uint32_t generations[2] = {node->queue[OUT].generation, node->queue[CAP].generation};
@@ -114,7 +101,8 @@ static int open_at(unsigned at, enum kind kind, int flags)
     int pair[2];
 
     reset(node, kind);
-    if (take_slot(node) != 0)
+    node->slot = at;
+    if (ASK(&reply, OP_OPEN, at, kind) != 0 || device_format(node, CAP, &node->capture) != 0)
         return -1;
     if (!descriptor_make(node, pair)) {
         ASK_PLAIN(&reply, OP_CLOSE, node->slot);
@@ -135,7 +123,7 @@ static bool start(void)
     bool is_ready;
 
     pthread_mutex_lock(&once);
-    is_ready = shared_start() && device_start();
+    is_ready = shared_start() && device_start(NODES);
     pthread_mutex_unlock(&once);
     return is_ready;
 }

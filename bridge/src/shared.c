@@ -1,6 +1,7 @@
 /* The memory that a process has in common with those that it forks: a lock, a bell, and the table of nodes. */
 #define _GNU_SOURCE
 #include "bridge.h"
+#include "next.h"
 #include <errno.h>
 #include <limits.h>
 #include <linux/futex.h>
@@ -92,4 +93,9 @@ int refuse(int number)
 {
     errno = number;
     return -1;
+}
+
+void close_own(int fd)
+{
+    NEXT(close)(fd);
 }

@@ -53,11 +53,6 @@ int __open64_2(const char *path, int flags) { return open64(path, flags); }
 int __openat_2(int at, const char *path, int flags) { return openat(at, path, flags); }
 int __openat64_2(int at, const char *path, int flags) { return openat64(at, path, flags); }
 
-void close_own(int fd)
-{
-    NEXT(close)(fd);
-}
-
 int close(int fd)
 {
     bool is_ours = node_of(fd) != NULL;
