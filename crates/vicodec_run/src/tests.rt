@@ -8,9 +8,12 @@ mod decoders;
 mod encode;
 mod encoders;
 mod faults;
+mod hostile;
 mod make;
+mod meeting;
 mod outside;
 mod share;
+mod turns;
 mod wire;
 
 use std::alloc::Global;
