@@ -144,11 +144,14 @@ fn faults_end_a_decoding(rt: HostRuntime) -> Result<(), Fail> {
     let line: &[&str] = &["decode", "--workers", "1"];
     let pictures = vec![in rt.alloc(); 128; 512]?;
     for (outside, status, least, most) in FAULTS {
-        let input = stream(rt.alloc(), &[(KEY, 48), (NEXT, 48)])?;
-        let (ended, written) = run_with(&rt, rt.alloc(), line, input, &outside)?;
-        assert_eq!(rt; ended, status);
-        assert!(rt; least <= written.len() && written.len() <= most);
-        assert_eq!(rt; Some(written.as_slice()), pictures.get(..written.len()));
+        for engine in 0..3 {
+            let outside = Outside { engine, ..outside };
+            let input = stream(rt.alloc(), &[(KEY, 48), (NEXT, 48)])?;
+            let (ended, written) = run_with(&rt, rt.alloc(), line, input, &outside)?;
+            assert_eq!(rt; ended, status);
+            assert!(rt; least <= written.len() && written.len() <= most);
+            assert_eq!(rt; Some(written.as_slice()), pictures.get(..written.len()));
+        }
     }
     Ok(())
 }

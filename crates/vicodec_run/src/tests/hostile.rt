@@ -203,7 +203,7 @@ fn check<R: Threads + Wait + Sync + Abort>(
     streams: &[(&[Frame], usize, Status)],
 ) -> Result<(), Fail> {
     for (at, (frames, pictures, status)) in streams.iter().enumerate() {
-        let wanted = vec![in alloc; 128; 256 * *pictures]?;
+        let wanted = vec![in alloc; 128; pictures.saturating_mul(256)]?;
         for (workers, read_step) in [("1", 4096), ("4", 7)] {
             let (ended, written) = decoded(rt, alloc, workers, frames, read_step)?;
             assert_eq!(rt; written.as_slice(), wanted.as_slice(), "stream {at}");

@@ -143,9 +143,9 @@ const DECODE: &[&str] = &["decode", "--workers", "3"];
 const PICTURE: &[u8] = &[128; 256];
 
 /// Lines, the picture or the frame that they get again and again, and how many bytes each of them becomes.
-const TURNS: [(&[&str], &[u8], usize); 2] = [(ENCODE, PICTURE, 48), (DECODE, KEY, 256)];
+const TURNS: [(&[&str], &[u8], u64); 2] = [(ENCODE, PICTURE, 48), (DECODE, KEY, 256)];
 
-/// Of three workers each runs a job before long: one that ran them all would never let the input end.
+/// Each of three workers runs a job before the source has given the most units. Where one ran them all it would give them.
 #[test]
 fn three_workers_take_turns_at_one_context(rt: HostRuntime) -> Result<(), Fail> {
     let alloc = rt.alloc();
@@ -159,7 +159,7 @@ fn three_workers_take_turns_at_one_context(rt: HostRuntime) -> Result<(), Fail> 
         let (status, written) = run_marked(&rt, alloc, line, &mut source)?;
         assert_eq!(rt; status, Status::Fine);
         assert!(rt; source.rota.is_through());
-        assert_eq!(rt; written as u64, source.given * bytes as u64);
+        assert_eq!(rt; written as u64, source.given.saturating_mul(bytes));
     }
     Ok(())
 }
