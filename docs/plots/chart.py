@@ -48,7 +48,8 @@ class Panel:
             self.chart.words(LEFT - 6, self.y(tick) + 4, f"{tick:,}", "end")
         for tick in self.across.ticks:
             put(f'<path class="grid" d="M{self.x(tick)},{self.top} V{bottom}"/>')
-            self.chart.words(self.x(tick), bottom + 16, f"{tick:,}", "middle")
+            number = f"{tick:,}"
+            self.chart.words(min(self.x(tick), WIDTH - 4 * len(number)), bottom + 16, number, "middle")
         put(f'<rect class="frame" x="{LEFT}" y="{self.top}" width="{right - LEFT}" height="{self.height}"/>')
         self.chart.words(LEFT, self.top - 7, self.up.words)
         self.chart.words(right, bottom + 33, self.across.words, "end")

@@ -99,6 +99,56 @@ def over_workers(figures):
     return chart
 
 
+def coding_table(figures, way):
+    """The lines of a table: pictures a second of processor time, of each coder for each content."""
+    contents = [content for table, content in figures if table == f"{way}: engines"]
+    yield f"| {way}: pictures a second | " + " | ".join(CONTENTS[content] for content in contents) + " |"
+    yield "|---" + "|---" * len(contents) + "|"
+    for place, row in enumerate(figures[f"{way}: engines", contents[0]]):
+        own = [figures[f"{way}: engines", content][place] for content in contents]
+        yield f"| {row.row} | " + " | ".join(f"{one.count / one.processor:,.0f}" for one in own) + " |"
+
+
+class Found:
+    """Figures by the name of their table, of the content that the most was measured on, and of their row."""
+
+    def __init__(self, figures):
+        self.rows = {(table, row.row): row for (table, _), rows in figures.items() for row in rows}
+
+    def times(self, table, row, other, kind="clock"):
+        """How many times as long the row takes as the other one, each for one of what it counts."""
+        own, base = self.rows[table, row], self.rows[table, other]
+        return getattr(own, kind) / own.count / getattr(base, kind) * base.count
+
+    def each(self, table, row):
+        """The seconds that one takes of what the row counts, by the clock."""
+        own = self.rows[table, row]
+        return own.clock / own.count
+
+
+def reached(figures):
+    """The goals, what was wanted, and what was reached."""
+    found = Found(figures)
+    for way, wanted in (("encode", (1, 2.5, 5)), ("decode", (2, 4, 6))):
+        for kind, least in zip(("plain", "fast", "lane"), wanted):
+            times = found.times(f"{way}: engines", "codec-fwht.c of the kernel", f"{kind} engine", "processor")
+            yield f"`{way}`, {kind} engine: times as fast as codec-fwht.c alone, of processor time", f"{least} at least", f"{times:.2f}"
+    for way, most in (("encode", 1.1), ("decode", 1.25)):
+        times = found.times(f"{way}: beside the codec alone", f"{way} --workers 1, lane engines", f"codec-{way}")
+        yield f"`{way}` beside the codec alone, by the clock", f"{most} at most", f"{times:.2f}"
+    for way in ("encode", "decode"):
+        times = found.times(f"{way}: over workers", f"{way} --workers 4", f"{way} --workers 1")
+        yield f"`{way}` with 4 workers beside 1, by the clock", "1 at most", f"{times:.2f}"
+    start = found.each("starts", "decode of nothing") - found.each("starts", "true")
+    yield "start of `decode`, beside that of `true`", "5 ms at most", f"{1e3 * start:.1f} ms"
+    times = found.times("share: eight streams, lane engines", "share --workers 1", "share --workers 4")
+    yield "`share` of 8 contexts with 4 workers: times as fast as with 1", "3.5 at least", f"{times:.2f}"
+    yield "a line of a script, in jobs of 16 bytes", "0.7 us at most", f"{1e6 * found.each('calls: jobs of 16 bytes', 'script'):.2f} us"
+    for size, most in (("64", 1.1), ("4,096", 1.3)):
+        times = found.times(f"contexts: copies, buffers of {size} bytes", "1,024 contexts", "1 contexts")
+        yield f"a line with 1,024 contexts beside one with 1, buffers of {size} bytes", f"{most} at most", f"{times:.2f}"
+
+
 def main():
     about, figures = measured()
     charts = {"encoding": rates(figures, "encode"), "decoding": rates(figures, "decode"),
@@ -107,6 +157,10 @@ def main():
         with open(os.path.join(HERE, f"speed_{name}.svg"), "w", encoding="utf-8") as file:
             file.write(chart.text())
     print("\n".join(about))
+    for way in ("encode", "decode"):
+        print("\n" + "\n".join(coding_table(figures, way)))
+    print("\n| Goal | wanted | reached |\n|---|---|---|")
+    print("\n".join(f"| {' | '.join(cells)} |" for cells in reached(figures)))
 
 
 main()
