@@ -7,8 +7,8 @@ ghost use Rattle.vc_defs.specs.Raw.{geometry_of};
 ghost use Rattle.vc_stream_run.specs.Running.{IsInStep};
 ghost use Rattle.vc_alone.specs.Pictures.{picture_format};
 
-use crate::piece::Piece;
 use crate::pictures::{AloneStop, FORMAT, GEOMETRY, MOST_TURNS, PICTURE_BYTES};
+use crate::piece::Piece;
 use std::alloc::Global;
 use vc_base::{NoMemory, Stamp};
 use vc_coder::BlockCoder;

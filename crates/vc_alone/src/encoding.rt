@@ -129,5 +129,12 @@ pub fn encode_alone<C: BlockCoder, S: Source, K: Sink>(
     let Ok(mut reference) = Reference::make(alloc, FORMAT.size) else {
         return Err(AloneStop::NoMemory);
     };
-    code_all(coder, source, sink, &mut picture, &mut frame, &mut reference)
+    code_all(
+        coder,
+        source,
+        sink,
+        &mut picture,
+        &mut frame,
+        &mut reference,
+    )
 }

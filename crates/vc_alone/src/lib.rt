@@ -6,8 +6,8 @@
 
 mod decoding;
 mod encoding;
-mod piece;
 mod pictures;
+mod piece;
 mod reading;
 #[cfg(test)]
 mod tests;

@@ -1,6 +1,6 @@
 //! The codec alone, from standard input to standard output.
 
-use crate::asked::Way;
+use crate::reading::Way;
 use std::alloc::Global;
 use vc_alone::{AloneStop, decode_alone, encode_alone};
 use vc_coder::{BlockCoder, TransformCoder};

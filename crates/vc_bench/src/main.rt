@@ -8,12 +8,12 @@
 #![tactic(auto)]
 
 mod alone;
-mod asked;
+mod reading;
 #[cfg(test)]
 mod tests;
 
 use crate::alone::run_alone;
-use crate::asked::{Asked, read_asked};
+use crate::reading::{Asked, read_asked};
 use std::alloc::Global;
 use std::process::ExitCode;
 use std::rt::Env;

@@ -1,6 +1,6 @@
 //! What the words ask for.
 
-use crate::asked::{Asked, Way, read_asked};
+use crate::reading::{Asked, Way, read_asked};
 use std::test::Fail;
 use vc_engines::EngineKind;
 

@@ -2,10 +2,10 @@
 //! what standard error says of the status.
 #![tactic(auto)]
 
-mod report;
+mod line;
 mod running;
-mod words;
+mod telling;
 
-pub use report::report;
+pub use line::words;
 pub use running::{handed_on, run_standard, run_whole, standard_sink};
-pub use words::words;
+pub use telling::report;

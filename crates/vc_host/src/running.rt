@@ -70,10 +70,7 @@ pub fn standard_sink<R: Print + Alloc<A = Global>>(
 }
 
 /// Does what the words ask for, from standard input to standard output.
-pub fn run_standard<
-    R: Threads + Wait + Sync + Input + Print + Alloc<A = Global>,
-    E: Engine + Send,
->(
+pub fn run_standard<R: Threads + Wait + Sync + Input + Print + Alloc<A = Global>, E: Engine + Send>(
     rt: &R,
     words: &[String],
     engines: &mut Vec<E>,

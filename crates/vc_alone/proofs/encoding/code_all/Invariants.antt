@@ -14,4 +14,4 @@ invariant-loop-turn g l =
     × (g.S.Source.faults l.source ≡ g.S.Source.faults l.initial.source)
     × (g.K.Sink.faults l.sink ≡ g.K.Sink.faults l.initial.sink)
     × HasCoded l.initial.reference.state (g.S.Source.left l.initial.source) (g.S.Source.left l.source) (g.K.Sink.written l.initial.sink)
-        (g.K.Sink.written l.sink) l.reference.state
+    (g.K.Sink.written l.sink) l.reference.state
