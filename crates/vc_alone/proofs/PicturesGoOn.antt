@@ -5,7 +5,7 @@ use Rattle.std.specs.Io.KnownBytes.{Appends, Consumes, IsAtEnd}
 use Rattle.std.proofs.KnownBytes.{Appends-nil, Appends-trans, Consumes-nil, Consumes-trans}
 use Rattle.vc_defs.specs.Encoder.{EncoderState, default_rates, encode}
 use Rattle.vc_alone.specs.Pictures.{picture_format}
-use Rattle.vc_alone.specs.Coded.{joined, frames_from, state_from, CodesNext, HasNone, HasCoded, AreCoded}
+use Rattle.vc_alone.specs.Coded.{joined, frames_from, state_from, CodesNext, HasNone, TurnCodes, HasCoded, AreCoded}
 
 joined_push : (ps : List (List ℕ)) (p : List ℕ) → joined (ps ++ p ∷ []) ≡ joined ps ++ p
 joined_push [] p = append-nil p
@@ -52,6 +52,11 @@ goes_on s s1 s2 l0 l1 l2 w0 w1 w2 h c =
       wrote = subst (λ (bytes : List ℕ). Appends w0 w2 bytes) (sym (frames_push s h.pictures c.picture)) (Appends-trans _ _ _ _ _ h.wrote frame);
       after = c.after ∙ (ap (λ (t : EncoderState). (encode t picture_format default_rates c.picture).state) h.after ∙ sym (state_push s h.pictures c.picture));
     }
+
+pub turn_goes_on : (more : Bool) (s s1 s2 : EncoderState) (l0 l1 l2 w0 w1 w2 : Option (List ℕ)) → more ≡ true →
+    HasCoded s l0 l1 w0 w1 s1 → TurnCodes more l1 l2 w1 w2 s1 s2 → HasCoded s l0 l2 w0 w2 s2
+turn_goes_on true s s1 s2 l0 l1 l2 w0 w1 w2 is h c = goes_on s s1 s2 l0 l1 l2 w0 w1 w2 h c
+turn_goes_on false s s1 s2 l0 l1 l2 w0 w1 w2 is h c = cc
 
 pub all_coded : (s s1 : EncoderState) (l0 l1 l2 w0 w1 w2 : Option (List ℕ)) → HasCoded s l0 l1 w0 w1 s1 → HasNone l1 l2 w1 w2 → AreCoded s l0 l2 w0 w2
 all_coded s s1 l0 l1 l2 w0 w1 w2 h n =
