@@ -76,7 +76,11 @@ fn deeds_of<R: Wait + Sync + Abort>(
     };
     let mut port = NotedPort { port, log: &log };
     let mut source = NotedSource {
-        bytes: MemSource::make(units(alloc, unit, count)?, unit.len().max(1), Vec::new(alloc)),
+        bytes: MemSource::make(
+            units(alloc, unit, count)?,
+            unit.len().max(1),
+            Vec::new(alloc),
+        ),
         log: &log,
     };
     let mut sink = MemSink::make(alloc, 4096, 4096, Vec::new(alloc))?;
