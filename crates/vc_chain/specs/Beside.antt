@@ -1,5 +1,5 @@
 -- What stays of a port beside another one.
-use Rattle.std.specs.Prelude.{ℕ, ◌≡◌, List}
+use Rattle.std.specs.Prelude.{◌≡◌, List}
 use Rattle.std.proofs.Common.{refl, ap, ◌∙◌}
 use Rattle.vc_model.specs.Solo.{SoloEvent}
 use Rattle.vc_queue.specs.Holds.{HoldState}

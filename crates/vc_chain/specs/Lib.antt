@@ -1,1 +1,4 @@
 pub mod Beside
+pub mod Parts
+pub mod Recoded
+pub mod Segments

@@ -2,5 +2,10 @@
 #![tactic(auto)]
 
 mod beside;
+mod collecting;
+pub mod laws;
+mod opening;
+mod segment;
 
 pub use beside::Beside;
+pub use segment::Segment;
