@@ -72,8 +72,11 @@ frames_first : (g : Geometry) (rates : RunRates) (ps qs : Pictures) → (more : 
 unfolding encoded
 frames_first g rates ps qs =
     let at : List (List ℕ) → List (List ℕ) × RunRates = λ (planes : List (List ℕ)). (planes, rates) in
-    let h = encoded_first g fresh_encoder (map at ps) (map at qs) in
-    (flat_map encoded_bytes h.0, ap (λ (l : List (List (List ℕ) × RunRates)). flat_map encoded_bytes (encoded_after g fresh_encoder l)) (map-append at ps qs) ∙ (ap (λ (es : List Encoded). flat_map encoded_bytes es) h.1 ∙ flat_map-append encoded_bytes (encoded_after g fresh_encoder (map at ps)) h.0))
+    let h = encoded_first g fresh_encoder (map at ps) (map at qs) in (
+      flat_map encoded_bytes h.0,
+      ap (λ (l : List (List (List ℕ) × RunRates)). flat_map encoded_bytes (encoded_after g fresh_encoder l)) (map-append at ps qs)
+          ∙ (ap (λ (es : List Encoded). flat_map encoded_bytes es) h.1 ∙ flat_map-append encoded_bytes (encoded_after g fresh_encoder (map at ps)) h.0),
+    )
 
 abbrev part_frames : RunRates → Part → List Encoded
 part_frames rates part = frames_of part.0 rates part.1

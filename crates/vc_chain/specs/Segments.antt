@@ -76,8 +76,8 @@ KeepsCoding result flight flight_now before after old new =
     OnOk result (IsCoding start format rates pictures flight_now first after new)
 
 -- and the used bytes of the payload are the last picture
-abbrev pub Pushes : {T : Type 0} (result : Result T Stop) (payload : Option (List ℕ)) (used flight flight_now : ℕ) (before after : Option (List ℕ)) (old new : List SoloEvent) → Type 0
-Pushes result payload used flight flight_now before after old new =
+abbrev pub Adds : {T : Type 0} (result : Result T Stop) (payload : Option (List ℕ)) (used flight flight_now : ℕ) (before after : Option (List ℕ)) (old new : List SoloEvent) → Type 0
+Adds result payload used flight flight_now before after old new =
     (start : List SoloEvent) (format : Format) (rates : RunRates) (pictures : List (List ℕ)) (first : Option (List ℕ)) (picture : List ℕ) →
     HasBytes payload used picture → IsCoding start format rates pictures flight first before old →
     OnOk result (IsCoding start format rates (pictures ++ picture ∷ []) flight_now first after new)

@@ -9,7 +9,7 @@ ghost use Rattle.vc_port.specs.Payloads.{slot_after, bytes_out, AreKept};
 ghost use Rattle.vc_flow.specs.Buffers.{IsThere};
 ghost use Rattle.vc_flow.specs.Calls.{KeepsHanded};
 ghost use Rattle.vc_encode_flow.specs.Flows.{HasFlow, IsKept, rates_of};
-ghost use Rattle.vc_chain.specs.Segments.{BeginsCoding, QueuesUsed, KeepsCoding, Pushes, LeavesFront, CodingTellsFault, EndsCoding};
+ghost use Rattle.vc_chain.specs.Segments.{BeginsCoding, QueuesUsed, KeepsCoding, Adds, LeavesFront, CodingTellsFault, EndsCoding};
 
 use crate::beside::Beside;
 use crate::collecting::{collect, collect_all, take_source};
@@ -153,7 +153,7 @@ impl Segment {
         self.room(rt, &mut beside, sink)
     }
 
-    /// Pushes a picture: the used bytes of a CAPTURE buffer that the user of another port holds. It is queued by exchange of the
+    /// Adds a picture: the used bytes of a CAPTURE buffer that the user of another port holds. It is queued by exchange of the
     /// payloads, which have one length. Where all OUTPUT buffers are in flight, a frame is waited for and written first;
     /// what waits pauses the other port, whose events stay.
     pub fn push<R: Wait, P: PayloadPort, K: Sink>(
@@ -172,7 +172,7 @@ impl Segment {
         ensures follows { P.follows port.old port.new × P.follows other.old other.new }
         ensures others { P.events other.new ≡ P.events other.old }
         ensures flow { OnOk result (HasFlow (P.events port.new)) }
-        ensures pushed { Pushes result (held_payload (P.hold other.old) Cap index) used self.old.in_flight self.new.in_flight (K.written sink.old) (K.written sink.new) (P.events port.old) (P.events port.new) }
+        ensures pushed { Adds result (held_payload (P.hold other.old) Cap index) used self.old.in_flight self.new.in_flight (K.written sink.old) (K.written sink.new) (P.events port.old) (P.events port.new) }
         ensures stopped { LeavesFront result self.old.in_flight (K.written sink.old) (K.written sink.new) (P.events port.old) (P.events port.new) }
         ensures engine { CodingTellsFault result self.old.in_flight (K.written sink.old) (P.events port.old) (P.events port.new) }
         ensures later { K.faults sink.old ≤ K.faults sink.new }
