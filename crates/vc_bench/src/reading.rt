@@ -30,6 +30,18 @@ fn kind_of(word: &str) -> Option<EngineKind> {
     }
 }
 
+/// The way of the codec alone that the words ask for.
+fn way_of(words: &[String]) -> Option<Way> {
+    let [way] = words else {
+        return None;
+    };
+    match way.as_bytes() {
+        b"codec-encode" => Some(Way::Encode),
+        b"codec-decode" => Some(Way::Decode),
+        _ => None,
+    }
+}
+
 /// Reads the words.
 pub(crate) fn read_asked(words: &[String]) -> Option<Asked>
     ensures { IsSome result → 0 < length words.now }
@@ -38,15 +50,8 @@ pub(crate) fn read_asked(words: &[String]) -> Option<Asked>
         return None;
     };
     let kind = kind_of(kind.as_str())?;
-    match behind {
-        [way] if way.as_bytes() == b"codec-encode" => Some(Asked::Alone {
-            kind,
-            way: Way::Encode,
-        }),
-        [way] if way.as_bytes() == b"codec-decode" => Some(Asked::Alone {
-            kind,
-            way: Way::Decode,
-        }),
-        _ => Some(Asked::Command { kind }),
+    match way_of(behind) {
+        Some(way) => Some(Asked::Alone { kind, way }),
+        None => Some(Asked::Command { kind }),
     }
 }
