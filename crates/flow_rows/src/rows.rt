@@ -1,5 +1,11 @@
 //! The flows of `encode` and `decode`, whose jobs run on the caller's thread each time the flow waits.
 
+ghost use Rattle.std.specs.Prelude.{◌≡◌, None};
+ghost use Rattle.vc_port.specs.Payloads.{slot_after};
+ghost use Rattle.vc_shared.specs.AsStation.{station_job};
+ghost use Rattle.vc_shared.specs.Handles.{slot_events, IsHandle};
+ghost use Rattle.vc_worker.specs.Both.{IfThere};
+
 use crate::device::one_and_one;
 use crate::log::{CAP_QUEUED, CAP_STREAMS, CAP_TAKEN, Log, OUT_QUEUED, OUT_STREAMS, READ, WAITED};
 use crate::noted::{NotedPort, NotedSource};
@@ -13,7 +19,7 @@ use vc_decode_flow::decode_on;
 use vc_encode_flow::{FlowEnd, encode_on};
 use vc_engine::PlainEngine;
 use vc_io::{MemSink, MemSource};
-use vc_shared::{Handle, WorkerSeat};
+use vc_shared::{Handle, HandleSeat, JobSeat, Shared, WorkerSeat};
 use vc_worker::{Help, Helping};
 
 /// Which flow runs.
@@ -53,38 +59,57 @@ fn units(alloc: Global, unit: &[u8], count: u32) -> Result<Vec<u8>, Fail> {
     Ok(bytes)
 }
 
-/// How a flow ends over so many pictures or frames, of which each read gives one, and what it did.
-fn deeds_of<R: Wait + Sync + Abort>(
+/// The port of the slot, which runs the slot's jobs by the idle worker while it waits.
+fn port_of<'a, R: Wait + Sync>(
+    rt: &'a R,
+    shared: &'a Shared,
+    handle: HandleSeat,
+    worker: JobSeat,
+) -> Helping<Handle<'a, R>, WorkerSeat<'a, R>, PlainEngine>
+    requires handle { handle.device.lock ≡ shared.now }
+    requires worker { worker.device.lock ≡ shared.now }
+    requires idle { station_job worker ≡ None }
+    ensures port { result.port ≡ handle }
+    ensures ready { IsHandle result.port }
+    ensures idle { IfThere (λ h. station_job h.station ≡ None) result.help }
+{
+    let station = WorkerSeat::new(rt, shared, worker);
+    let engine = PlainEngine::new();
+    let help = Some(Help { station, engine });
+    let port = Handle::new(rt, shared, handle);
+    Helping { port, help }
+}
+
+/// Lets a flow run through the slot over so many pictures or frames, of which each read gives one, and tells how it ends.
+fn run_flow<R: Wait + Sync>(
     rt: &R,
     alloc: Global,
-    way: Way,
-    count: u32,
-) -> Result<(FlowEnd, Vec<u8>), Fail> {
+    shared: &Shared,
+    seats: (HandleSeat, JobSeat),
+    log: &Log,
+    flow: (Way, u32),
+) -> Result<FlowEnd, Fail>
+    requires handle { (seats.0.device.lock ≡ shared.now) × (slot_after (slot_events seats.0) ≡ None) }
+    requires worker { (seats.1.device.lock ≡ shared.now) × (station_job seats.1 ≡ None) }
+{
+    let (handle, worker) = seats;
+    let (way, count) = flow;
     let unit: &[u8] = match way {
         Way::Encode => PICTURE,
         Way::Decode => KEY,
     };
-    let log = Log::make(alloc)?;
-    let (shared, handle, worker) = one_and_one(rt, alloc);
-    let help = Help {
-        station: WorkerSeat::new(rt, &shared, worker),
-        engine: PlainEngine::new(),
-    };
-    let port = Helping {
-        port: Handle::new(rt, &shared, handle),
-        help: Some(help),
-    };
-    let mut port = NotedPort { port, log: &log };
+    let port = port_of(rt, shared, handle, worker);
+    let mut port = NotedPort { port, log };
     let mut source = NotedSource {
         bytes: MemSource::make(
             units(alloc, unit, count)?,
             unit.len().max(1),
             Vec::new(alloc),
         ),
-        log: &log,
+        log,
     };
     let mut sink = MemSink::make(alloc, 4096, 4096, Vec::new(alloc))?;
-    let end = match way {
+    Ok(match way {
         Way::Encode => encode_on(
             rt,
             alloc,
@@ -95,7 +120,19 @@ fn deeds_of<R: Wait + Sync + Abort>(
             &RATES,
         ),
         Way::Decode => decode_on(rt, alloc, &mut port, &mut source, &mut sink),
-    };
+    })
+}
+
+/// How a flow ends over so many pictures or frames, and what it did.
+fn deeds_of<R: Wait + Sync + Abort>(
+    rt: &R,
+    alloc: Global,
+    way: Way,
+    count: u32,
+) -> Result<(FlowEnd, Vec<u8>), Fail> {
+    let log = Log::make(alloc)?;
+    let (shared, handle, worker) = one_and_one(rt, alloc);
+    let end = run_flow(rt, alloc, &shared, (handle, worker), &log, (way, count))?;
     Ok((end, log.deeds(alloc)?))
 }
 
