@@ -82,7 +82,10 @@ pub fn answer_on(
     let Ok(_) = answer_body(alloc, desk, body, &mut engine, &mut out) else {
         return Status::NoMemory;
     };
-    let reply = &out[LENGTH_SIZE..];
+    let reply = out.get(LENGTH_SIZE..).unwrap_or(&[]);
+    if room.len() < reply.len() {
+        return Status::NoMemory;
+    }
     put_front(reply, room);
     *size = reply.len();
     Status::Done
