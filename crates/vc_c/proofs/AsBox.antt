@@ -14,14 +14,14 @@ use denote.Signature.{Slot, plain}
 use denote.Steps.{nothing}
 use denote.Struct.Struct.{within}
 use denote.Struct.Owning.{shape}
-use Rattle.core.proofs.alloc.Calls.{Fits}
+use Rattle.std.proofs.alloc.Calls.{Fits}
 use Rattle.std.specs.Prelude.{Option, Some, None}
 use Rattle.std.specs.Global.{Global}
-use Rattle.std_alloc.proofs.BoxSteps.Form.{Bx, box_ty, box_typed}
-use Rattle.std_alloc.proofs.ResultValues.{and_tt}
-use Rattle.std_heap.specs.contracts.Global as Heap
-use Rattle.std_heap.specs.contracts.GlobalAllocator.TheImpl.{ghosts, dict}
-use Rattle.std_heap.proofs.Global.TheLaws as heap
+use Rattle.std.proofs.BoxSteps.Form.{Bx, box_ty, box_typed}
+use Rattle.std.proofs.ResultValues.{and_tt}
+use Rattle.std.specs.contracts.alloc.Global as Heap
+use Rattle.std.specs.contracts.impls.GlobalAllocator.TheImpl.{ghosts, dict}
+use Rattle.std.proofs.alloc.Global.TheLaws as heap
 use Rattle.vc_desk.specs.contracts.desk.Desk as Desk
 use Rattle.vc_desk.proofs.desk.Desk.TheLaws as desk
 use Rattle.vc_c.specs.Held.{IsThere}
@@ -56,7 +56,7 @@ pair p hv = vstruct (vcons (ptr_val p) (vcons hv vnil))
 
 pub pair_typed : (p : Ptr) (hv : Val) → Fits E.al hv → T (has_ty (box_ty E) (pair p hv)) × WT (pair p hv)
 pair_typed (block_ptr b o) hv fits = box_typed E hv b o fits
-pair_typed null_ptr hv fits = (and_tt (has_ty (Rattle.core.proofs.alloc.Calls.α E.al) hv) fits.0, (tt, (fits.1, tt)))
+pair_typed null_ptr hv fits = (and_tt (has_ty (Rattle.std.proofs.alloc.Calls.α E.al) hv) fits.0, (tt, (fits.1, tt)))
 
 module _ {M : Type 1} {𝓤 : Ura M} {𝓛 : Logic 𝓤} {K : Type 0} {Γ : List (Item 𝓤)} {G : Goal 𝓤 𝓛.H} where
   pub none_in : K → (p : Ptr) (a : Global) (hv : Val)

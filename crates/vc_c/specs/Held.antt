@@ -4,7 +4,7 @@ use base.Fml.{Fml, ftrue}
 use denote.RawPtr.{Ptr}
 use Rattle.std.specs.Box.Ownership.{box_owns}
 use Rattle.std.specs.Global.{Global}
-use Rattle.std_heap.specs.contracts.GlobalAllocator.TheImpl.{ghosts}
+use Rattle.std.specs.contracts.impls.GlobalAllocator.TheImpl.{ghosts}
 use Rattle.vc_desk.specs.contracts.desk.Desk.{the_row}
 
 -- a box with the desk, or nothing

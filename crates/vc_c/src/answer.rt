@@ -66,7 +66,7 @@ pub fn answer_on(
     ensures desk { IsSomeDesk desk.new }
 {
     *size = 0;
-    if body.is_empty() || LONGEST_MESSAGE as usize < body.len() {
+    if body.is_empty() || (LONGEST_MESSAGE as usize) < body.len() {
         return Status::BadLength;
     }
     if MOST_STEPS <= desk.core.count() {

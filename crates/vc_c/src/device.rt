@@ -1,8 +1,7 @@
 //! A device of C's.
 
-ghost use Rattle.std.specs.Prelude.{◌≡◌, ◌<◌, ◌≤◌, ◌^◌, Option, Some, None, IfSome, length};
+ghost use Rattle.std.specs.Prelude.{◌≡◌, Some, None, IfSome};
 ghost use Rattle.std.specs.Option.{MatchOption};
-ghost use Rattle.vc_desk.specs.declared.desk.Desk.{Desk as DeskState};
 ghost use Rattle.vc_desk.specs.Desks.{IsSomeDesk};
 ghost use Rattle.vc_c.specs.Calls.{Answers, Frees, Makes};
 
@@ -16,7 +15,7 @@ use std::mem;
 use vc_base::limits::MOST_SLOTS;
 use vc_desk::Desk;
 
-/// A device of C's: a desk, or none. Contracts see it as that.
+/// A device of C's: a desk, or none. Contracts see what is held.
 #[repr(C)]
 #[derive(Drop)]
 pub struct Device {
@@ -25,23 +24,28 @@ pub struct Device {
 }
 
 impl Model for Device {
-    ghost use Rattle.std.specs.Prelude.{◌≡◌, Option, is_some, IfSome};
-    ghost use Rattle.vc_desk.specs.declared.desk.Desk.{Desk as DeskState};
+    ghost use Rattle.std.specs.Prelude.{◌≡◌, is_some, IfSome};
+    ghost use mathlib.Core.Path.{ap, sym};
+    ghost use Rattle.vc_c.specs.declared.held.Held.{Held as HeldState};
     ghost use Rattle.vc_desk.specs.Desks.{IsSomeDesk};
 
-    ghost Value = { Option DeskState };
+    ghost Value = { HeldState };
 
-    ghost view = { λ d. d.held.desk };
+    ghost view = { λ d. d.held };
 
     ghost invariant = { λ d. (d.is_made ≡ is_some d.held.desk) × IfSome d.held.desk IsSomeDesk };
+
+    ghost inverse = { λ h. record { held = h; is_made = is_some h.desk } };
+
+    ghost inverse_ok = { λ a h. ap (λ b. record { held = a.held; is_made = b }) (sym h.0) };
 }
 
 impl Device {
     /// Takes the desk out, and leaves none.
     fn take(&mut self, alloc: Global) -> Option<Box<Desk>>
-        ensures desk { MatchOption result (self.old ≡ None) (λ desk. self.old ≡ Some desk.value) }
+        ensures desk { MatchOption result (self.old.desk ≡ None) (λ desk. self.old.desk ≡ Some desk.value) }
         ensures some { IfSome result (λ desk. IsSomeDesk desk.value) }
-        ensures none { self.new ≡ None }
+        ensures none { self.new.desk ≡ None }
     {
         if !self.is_made {
             return None;
@@ -53,9 +57,9 @@ impl Device {
 
     /// Puts a desk in, where there is none.
     fn put(&mut self, desk: Box<Desk>)
-        requires none { self.old ≡ None }
+        requires none { self.old.desk ≡ None }
         requires desk { IsSomeDesk desk.value }
-        ensures { self.new ≡ Some desk.value }
+        ensures { self.new.desk ≡ Some desk.value }
     {
         self.held = Held::of(Loose::of(desk));
         self.is_made = true;
@@ -63,7 +67,7 @@ impl Device {
 
     /// Makes a device of so many slots.
     pub fn make(&mut self, alloc: Global, slots: u32) -> Status
-        ensures { Makes slots self.old self.new result }
+        ensures { Makes slots self.old.desk self.new.desk result }
     {
         if self.is_made {
             return Status::InUse;
@@ -85,7 +89,7 @@ impl Device {
 
     /// Frees the device.
     pub fn free(&mut self, alloc: Global) -> Status
-        ensures { Frees self.old self.new result }
+        ensures { Frees self.old.desk self.new.desk result }
     {
         match self.take(alloc) {
             Some(_) => Status::Done,
@@ -101,7 +105,7 @@ impl Device {
         room: &mut [u8],
         size: &mut usize,
     ) -> Status
-        ensures { Answers body.now (record { before = room.old; now = room.new; size = size.new }) self.old self.new result }
+        ensures { Answers body.now (record { before = room.old; now = room.new; size = size.new }) self.old.desk self.new.desk result }
     {
         let Some(mut desk) = self.take(alloc) else {
             *size = 0;

@@ -10,7 +10,7 @@ use std::alloc::Global;
 /// Makes a device of so many slots, 1 to 1,024. Tells the number of a status.
 #[unsafe(no_mangle)]
 pub extern "C" fn sirgumba_make(alloc: Global, device: &mut Device, slots: u32) -> u32
-    ensures { Tells result (Makes slots device.old device.new) }
+    ensures { Tells result (Makes slots device.old.desk device.new.desk) }
 {
     device.make(alloc, slots).number()
 }
@@ -18,7 +18,7 @@ pub extern "C" fn sirgumba_make(alloc: Global, device: &mut Device, slots: u32) 
 /// Frees a device. Tells the number of a status.
 #[unsafe(no_mangle)]
 pub extern "C" fn sirgumba_free(alloc: Global, device: &mut Device) -> u32
-    ensures { Tells result (Frees device.old device.new) }
+    ensures { Tells result (Frees device.old.desk device.new.desk) }
 {
     device.free(alloc).number()
 }
@@ -33,7 +33,7 @@ pub extern "C" fn sirgumba_answer(
     room: &mut [u8],
     size: &mut usize,
 ) -> u32
-    ensures { Tells result (Answers body.now (record { before = room.old; now = room.new; size = size.new }) device.old device.new) }
+    ensures { Tells result (Answers body.now (record { before = room.old; now = room.new; size = size.new }) device.old.desk device.new.desk) }
 {
     device.answer(alloc, body, room, size).number()
 }

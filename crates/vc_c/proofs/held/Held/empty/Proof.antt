@@ -15,7 +15,7 @@ use contract.Running.{tables, tables_of}
 use sound.WpLaws.{WpFn-mono}
 use types.Kit.{Item, ‵, raw, ◌⊛◌, ◌$◌, ◌∵◌, !, qed, by, move, drop, join, split, fsplit, fjoin, feq_l, suffices, done}
 use types.Part.{agg}
-use types.Run.{no_more, and_then, of_opd, returns, enter}
+use types.Run.{no_more, and_then, returns, enter}
 use types.ByLocal.{alloc_all, pass_all, free_all, look_at, get, sets}
 use denote.Exit.{yes}
 use denote.Signature.{type_at}
@@ -25,8 +25,8 @@ use denote.Triple.Spec.{triple_of}
 use denote.Triple.Table.{entered}
 use denote.Triple.Walked.{says, Stays, stay_dropped, walk_of, ends_at, Goes-dropped, walk_Meets}
 use Rattle.std.specs.Prelude.{None}
-use Rattle.core.proofs.alloc.Calls.{handle_tells}
-use Rattle.std_heap.specs.contracts.Global as Heap
+use Rattle.std.proofs.alloc.Calls.{handle_tells}
+use Rattle.std.specs.contracts.alloc.Global as Heap
 use Rattle.vc_c.specs.contracts.held.Held as Held
 use Rattle.vc_c.proofs.AsBox.{E, FromAddress, FromHeap, pair, pair_typed, none_in}
 use Rattle.vc_c.specs.contracts.held.Held.empty as F
@@ -54,7 +54,6 @@ module _ {M : Type 1} {𝓤 : Ura M} (𝓛 : Logic 𝓤) (at_mem : Memory → SP
       by ! (subst (λ (us : List Val). ent 𝓤 (types.Kit.⋆ 𝓛 Γ) (WpFn 𝓤 H 𝓣.C 𝓣.Λ code.function (us ++ (z.0.4.1.0 ++ [])) Post)) (sym ep)
       (subst (λ (us : List Val). ent 𝓤 (types.Kit.⋆ 𝓛 Γ) (WpFn 𝓤 H 𝓣.C 𝓣.Λ code.function (ptr_val p ∷ (us ++ [])) Post)) (sym ea)
       (qed 𝓛 Γ ∵ enter ! 𝓣.C 𝓣.Λ code.function (ptr_val p ∷ hv ∷ []) _ $ alloc_all ! (λ ls. pass_all ! refl (((rawptr_Lawful 𝓛).typed p (ptr_val p ∷ []) refl).0, (fa, tt)) $
-      sets ! (of_opd ! (get ! refl)) refl (((rawptr_Lawful 𝓛).typed p (ptr_val p ∷ []) refl).0) $ sets ! (of_opd ! (get ! refl)) refl fa $
       sets ! (agg ! (and_then ! (get ! refl) (and_then ! (get ! refl) (no_more !)))) refl (pair_typed p hv fa) $ returns ! (look_at ! 0 refl) $ free_all ! refl $
       suffices ! _ (ends_at 𝓛 F.ended stayed (F.clauses 𝓛 at_mem run) z w made (tt, (tt, tt)) (tt, (tt, tt))) $ says ! refl $
       nothing ! $ nothing ! $ fjoin ! $ nothing ! $ fjoin ! $ join ! $ nothing ! $ join ! $ done !))))))

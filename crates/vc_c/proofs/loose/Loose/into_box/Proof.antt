@@ -32,14 +32,14 @@ use denote.Triple.Spec.{triple_of}
 use denote.Triple.Statement.{Triple, Contract}
 use denote.Triple.Table.{entered}
 use denote.Triple.Walked.{says, Stays, stay_dropped, walk_of, ends_at, walk_Meets}
-use Rattle.core.proofs.alloc.Calls.{token, Goes-blank}
-use Rattle.std_alloc.specs.Box.Ownership.{box_owns}
-use Rattle.std_alloc.proofs.BoxSteps.Form.{Bx, D, R, P, B, args, box_ty, word, box_typed}
-use Rattle.std_alloc.proofs.BoxSteps.Steps.{box_out, box_in}
+use Rattle.std.proofs.alloc.Calls.{token, Goes-blank}
+use Rattle.std.specs.Box.Ownership.{box_owns}
+use Rattle.std.proofs.BoxSteps.Form.{Bx, D, R, P, B, args, box_ty, word, box_typed}
+use Rattle.std.proofs.BoxSteps.Steps.{box_out, box_in}
 use Rattle.vc_c.specs.contracts.loose.Loose as loose
-use Rattle.std_alloc.specs.contracts.boxed.Box.from_raw as Fr
-use Rattle.std_alloc.proofs.boxed.Box.from_raw.Symbol as raw_sym
-use Rattle.std_alloc.proofs.boxed.Box.from_raw.Met as raw_met
+use Rattle.std.specs.contracts.boxed.Box.from_raw as Fr
+use Rattle.std.proofs.boxed.Box.from_raw.Symbol as raw_sym
+use Rattle.std.proofs.boxed.Box.from_raw.Met as raw_met
 use Rattle.vc_c.specs.contracts.loose.Loose.into_box as F
 use Rattle.vc_c.specs.contracts.loose.Loose.into_box.Key.{name as #self}
 use Rattle.vc_c.proofs.loose.Loose.into_box.Statement as stated
@@ -106,4 +106,4 @@ into_box_spec 𝓤 𝓛 𝓜 𝓡 wired X Z LX LZ g d dd allocator md =
     let fn = fn' E in
     entered 𝓤 𝓛.H (triple_of 𝓛 (ended E).signature (F.spec X Z g d dd 𝓛 𝓜.mem 𝓡.returns)) 𝓣.C 𝓣.Λ (#self (args E)) fn (code.unfolded 𝓤 𝓛.H 𝓜 𝓡 wired (X, (Z, tt)) d dd)
     (walk_Meets 𝓛 (ended E) (stayed E) (Goes-blank 𝓛 2 (plain (λ _. From E)) no (λ κs x f. tt), tt) (held E 𝓛 𝓜.mem 𝓡.returns 𝓣) (WpFn 𝓤 𝓛.H 𝓣.C 𝓣.Λ fn) (WpFn-mono 𝓤 𝓛.H 𝓛.laws 𝓣 fn)
-    (walk E 𝓛 𝓜.mem 𝓡.returns 𝓣 (raw_met.met 𝓤 𝓛 𝓜 𝓡 (code.calls-std_alloc::boxed::Box::from_raw 𝓡.env wired) X Z LX LZ g d dd allocator md)))
+    (walk E 𝓛 𝓜.mem 𝓡.returns 𝓣 (raw_met.met 𝓤 𝓛 𝓜 𝓡 (code.calls-std::boxed::Box::from_raw 𝓡.env wired) X Z LX LZ g d dd allocator md)))

@@ -34,14 +34,14 @@ use denote.Triple.Spec.{triple_of}
 use denote.Triple.Statement.{Triple, Contract}
 use denote.Triple.Table.{entered}
 use denote.Triple.Walked.{says, Stays, stay_dropped, walk_of, ends_at, walk_Meets}
-use Rattle.core.proofs.alloc.Calls.{token, handle_tells, Goes-blank}
-use Rattle.std_alloc.specs.Box.Ownership.{box_owns}
-use Rattle.std_alloc.proofs.BoxSteps.Form.{Bx, D, τ, R, P, B, word, box_typed}
-use Rattle.std_alloc.proofs.BoxSteps.Steps.{box_out, box_in}
+use Rattle.std.proofs.alloc.Calls.{token, handle_tells, Goes-blank}
+use Rattle.std.specs.Box.Ownership.{box_owns}
+use Rattle.std.proofs.BoxSteps.Form.{Bx, D, τ, R, P, B, word, box_typed}
+use Rattle.std.proofs.BoxSteps.Steps.{box_out, box_in}
 use Rattle.vc_c.specs.contracts.loose.Loose as loose
-use Rattle.std_alloc.specs.contracts.boxed.Box.into_raw_with_allocator as Ra
-use Rattle.std_alloc.proofs.boxed.Box.into_raw_with_allocator.Symbol as raw_sym
-use Rattle.std_alloc.proofs.boxed.Box.into_raw_with_allocator.Met as raw_met
+use Rattle.std.specs.contracts.boxed.Box.into_raw_with_allocator as Ra
+use Rattle.std.proofs.boxed.Box.into_raw_with_allocator.Symbol as raw_sym
+use Rattle.std.proofs.boxed.Box.into_raw_with_allocator.Met as raw_met
 use Rattle.vc_c.specs.contracts.loose.Loose.of as F
 use Rattle.vc_c.specs.contracts.loose.Loose.of.Key.{name as #self}
 use Rattle.vc_c.proofs.loose.Loose.of.Statement as stated
@@ -108,4 +108,4 @@ of_spec 𝓤 𝓛 𝓜 𝓡 wired X Z LX LZ g d dd dx allocator md glue =
     let fn = fn' E dx in
     entered 𝓤 𝓛.H (triple_of 𝓛 (ended E dx).signature (F.spec X Z g d dd dx 𝓛 𝓜.mem 𝓡.returns)) 𝓣.C 𝓣.Λ (#self (args E dx)) fn (code.unfolded 𝓤 𝓛.H 𝓜 𝓡 wired (X, (Z, tt)) d dd dx)
     (walk_Meets 𝓛 (ended E dx) (stayed E dx) (Goes-blank 𝓛 2 (plain (λ _. B E)) no (λ κs x f. tt), tt) (held E dx 𝓛 𝓜.mem 𝓡.returns 𝓣) (WpFn 𝓤 𝓛.H 𝓣.C 𝓣.Λ fn) (WpFn-mono 𝓤 𝓛.H 𝓛.laws 𝓣 fn)
-    (walk E dx 𝓛 𝓜.mem 𝓡.returns 𝓣 (raw_met.met 𝓤 𝓛 𝓜 𝓡 (code.calls-std_alloc::boxed::Box::into_raw_with_allocator 𝓡.env wired) X Z LX LZ g d dd dx allocator md glue)))
+    (walk E dx 𝓛 𝓜.mem 𝓡.returns 𝓣 (raw_met.met 𝓤 𝓛 𝓜 𝓡 (code.calls-std::boxed::Box::into_raw_with_allocator 𝓡.env wired) X Z LX LZ g d dd dx allocator md glue)))
