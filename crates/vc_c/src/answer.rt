@@ -8,7 +8,7 @@ ghost use Rattle.vc_c.specs.Calls.{AnswersOn, room_for};
 
 use crate::status::Status;
 use std::alloc::Global;
-use vc_base::limits::LONGEST_MESSAGE;
+use vc_base::limits::{LONGEST_BUFFER, LONGEST_MESSAGE};
 use vc_base::{Call, Side};
 use vc_desk::Desk;
 use vc_lanes::LaneEngine;
@@ -19,7 +19,7 @@ use vc_wire::requests::{Request, request_in};
 const SHORT_ROOM: usize = 29;
 
 /// The bytes of any reply at most.
-const ROOM: usize = 17_694_793;
+const ROOM: usize = SHORT_ROOM + LONGEST_BUFFER as usize;
 
 /// The bytes of the length that a reply begins with.
 const LENGTH_SIZE: usize = 4;
@@ -29,6 +29,7 @@ const MOST_STEPS: u64 = 1 << 62;
 
 /// The room that the reply to a body may need.
 fn room_for(desk: &Desk, body: &[u8]) -> usize
+    requires desk { IsSomeDesk desk.now }
     requires body { length body.now < 2 ^ 32 }
     ensures { (n : ℕ) (history : List DeviceEvent) → IsDesk n history desk.now → result ≡ room_for (asked_in n body.now) }
 {
@@ -42,6 +43,13 @@ fn room_for(desk: &Desk, body: &[u8]) -> usize
         }) => ROOM,
         _ => SHORT_ROOM,
     }
+}
+
+/// What stands behind the length of a reply.
+fn behind_length(reply: &[u8]) -> &[u8]
+    ensures { result.now ≡ drop 4 reply.now }
+{
+    reply.get(LENGTH_SIZE..).unwrap_or(&[])
 }
 
 /// Copies bytes to the front of the room.
@@ -82,7 +90,7 @@ pub fn answer_on(
     let Ok(_) = answer_body(alloc, desk, body, &mut engine, &mut out) else {
         return Status::NoMemory;
     };
-    let reply = out.get(LENGTH_SIZE..).unwrap_or(&[]);
+    let reply = behind_length(&out);
     if room.len() < reply.len() {
         return Status::NoMemory;
     }

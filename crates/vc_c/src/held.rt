@@ -40,14 +40,10 @@ impl Held {
     pub fn none(alloc: Global) -> Held
         ensures { result.desk ≡ None }
     {
-        Held::empty(null_mut(), alloc)
-    }
-
-    // The address is of no account.
-    fn empty(at: *mut u8, alloc: Global) -> Held
-        ensures { result.desk ≡ None }
-    {
-        Held { at, alloc }
+        Held {
+            at: null_mut(),
+            alloc,
+        }
     }
 
     /// Hands the desk back.
