@@ -34,13 +34,15 @@ fn room_for(desk: &Desk, body: &[u8]) -> usize
     ensures { (n : ℕ) (history : List DeviceEvent) → IsDesk n history desk.now → result ≡ room_for (asked_in n body.now) }
 {
     match request_in(desk.holds.len() as u32, body) {
-        Some(Request::Call {
-            call: Call::DqBuf {
-                side: Side::Cap,
+        Some(
+            Request::Call {
+                call: Call::DqBuf {
+                    side: Side::Cap,
+                    ..
+                },
                 ..
             },
-            ..
-        }) => ROOM,
+        ) => ROOM,
         _ => SHORT_ROOM,
     }
 }
