@@ -5,16 +5,18 @@
  * and is then called. A call is a message of the wire (docs/FORMAT.md, "The wire"): sirgumba_answer takes the body of a
  * message and gives the body of its reply, both without the four bytes of a length. docs/DEVICE.md says what each call does.
  *
- * Jobs run where the caller wants: sirgumba_claim takes the job of the slot that waits longest, sirgumba_run runs it, and
- * sirgumba_finish brings it back. A run touches no device, so it needs no lock. A program without threads may send the
- * messages claim and finish to sirgumba_answer instead; then the job runs inside of the call.
+ * sirgumba_claim takes the job of the slot that waits longest, sirgumba_run runs it, and sirgumba_finish brings it back. As
+ * yet the three send the messages claim and finish (jobs.c): the job stays in its device, sirgumba_run does nothing, and the
+ * job runs inside of sirgumba_finish, under the caller's lock. A program that makes the three calls, each job run once and
+ * outside of the lock, can stay as it is when jobs run outside of their devices.
  *
  * What a caller has to uphold:
  *
  * - A device or a job begins as SIRGUMBA_NONE. Its fields are the library's: they are neither read, nor changed, nor copied
  *   to be used twice. To hand one on, hand on its address.
  * - One call at a time on a device. Threads that share one take a lock round each call but sirgumba_run.
- * - One call at a time on a job. A job may be run by another thread than the one that claimed it.
+ * - One call at a time on a job. A job may be run by another thread than the one that claimed it, and is run before it is
+ *   finished.
  * - A job goes back to the device that it was claimed from. Before a device is freed, all its jobs are finished.
  * - Pointers are not null, and what they point to is there for the call and does not overlap; a body of no bytes and a room
  *   of no bytes need an address too.
@@ -79,7 +81,7 @@ typedef enum sirgumba_status {
                                     asks for was done there (to a call whose own memory is refused the reply is ENOMEM) */
     SIRGUMBA_NO_JOB = 7,         /* no slot waits for a worker */
     SIRGUMBA_BUSY = 8,           /* the worker has a job already */
-    SIRGUMBA_LENT = 9,           /* a message claim or finish of a worker whose job sirgumba_claim gave out */
+    SIRGUMBA_LENT = 9,           /* not told as yet */
     SIRGUMBA_TOO_MANY_STEPS = 10 /* the device made 2^62 steps; it can only be freed */
 } sirgumba_status;
 
@@ -100,7 +102,7 @@ typedef struct sirgumba_device {
     bool is_made;
 } sirgumba_device;
 
-/* A job that was claimed, run or not. */
+/* A job that was claimed. */
 typedef struct sirgumba_job {
     void *at;
     bool is_made;
@@ -131,7 +133,7 @@ uint32_t sirgumba_free(sirgumba_device *device);
  * CAPTURE, else SIRGUMBA_SHORT_ROOM. With any other status but SIRGUMBA_OK it is 0. The bytes of the room behind the reply
  * stay as they are.
  *
- * SIRGUMBA_OK, NOT_MADE, BAD_LENGTH, WANTS_ROOM, NO_MEMORY, LENT, TOO_MANY_STEPS.
+ * SIRGUMBA_OK, NOT_MADE, BAD_LENGTH, WANTS_ROOM, NO_MEMORY, TOO_MANY_STEPS.
  */
 uint32_t sirgumba_answer(sirgumba_device *device, const uint8_t *body, size_t body_size, uint8_t *room, size_t room_size,
                          size_t *reply_size);
@@ -152,10 +154,9 @@ uint32_t sirgumba_claim(sirgumba_device *device, uint32_t worker, sirgumba_job *
 uint32_t sirgumba_run(sirgumba_job *job);
 
 /*
- * Brings a job back to its device, and sets *end to how it ended, one of sirgumba_end. A job that was not run is given up: it
- * ends with SIRGUMBA_FAULT, and its pictures come back marked as errors. The job is SIRGUMBA_NONE afterwards.
+ * Brings a job back to its device, and sets *end to how it ended, one of sirgumba_end. The job is SIRGUMBA_NONE afterwards.
  *
- * SIRGUMBA_OK, NOT_MADE, TOO_MANY_STEPS.
+ * SIRGUMBA_OK, NOT_MADE, NO_MEMORY, TOO_MANY_STEPS.
  */
 uint32_t sirgumba_finish(sirgumba_device *device, sirgumba_job *job, uint8_t *end);
 
