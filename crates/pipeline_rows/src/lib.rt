@@ -7,6 +7,8 @@ mod alone;
 #[cfg(test)]
 mod commands;
 #[cfg(test)]
+mod contexts;
+#[cfg(test)]
 mod rows;
 #[cfg(test)]
 mod stream;

@@ -8,9 +8,12 @@ mod decoders;
 mod encode;
 mod encoders;
 mod faults;
+mod hostile;
 mod make;
+mod meeting;
 mod outside;
 mod share;
+mod turns;
 mod wire;
 
 use std::alloc::Global;
@@ -20,6 +23,7 @@ use std::thread::Threads;
 use vc_base::NoMemory;
 use vc_core::Engine;
 use vc_engine::PlainEngine;
+use vc_engines::{ProgramEngine, program_engines};
 use vc_fault::FailingEngine;
 use vc_io::{MemSink, MemSource, Source};
 use vc_top::{Status, top};
@@ -56,15 +60,32 @@ fn words(alloc: Global, line: &[&str]) -> Result<Vec<String>, NoMemory> {
     Ok(words)
 }
 
-/// Runs a command line from a source to a sink, with plain engines, of which the first fails at one run, counted from
-/// 0, where one is named. Tells how it ended.
+/// An engine that fails at one run, counted from 0, and else runs as the program's engine at this place does: 0 for a lane
+/// engine, 1 for a plain one, 2 for a fast one.
+fn failing_engine(
+    alloc: Global,
+    run: u64,
+    place: u32,
+) -> Result<FailingEngine<ProgramEngine>, NoMemory> {
+    let mut engines = program_engines(alloc, place.saturating_add(1))?;
+    let Some(inner) = engines.pop() else {
+        return Err(NoMemory);
+    };
+    let Ok(runs) = vec![in alloc; run] else {
+        return Err(NoMemory);
+    };
+    Ok(FailingEngine::make(runs, inner))
+}
+
+/// Runs a command line from a source to a sink, with plain engines. In the place of the first there may be one that fails
+/// at a run, by the number of the run and the place that says which engine it is. Tells how it ended.
 fn run_between<R: Threads + Wait + Sync>(
     rt: &R,
     alloc: Global,
     line: &[&str],
     source: &mut MemSource,
     sink: &mut MemSink,
-    failing_run: Option<u64>,
+    failing: Option<(u64, u32)>,
 ) -> Result<Status, NoMemory> {
     let words = words(alloc, line)?;
     let mut engines: Vec<Box<dyn Engine + Send>> = Vec::new(alloc);
@@ -76,11 +97,8 @@ fn run_between<R: Threads + Wait + Sync>(
             return Err(NoMemory);
         };
     }
-    if let Some(run) = failing_run {
-        let Ok(runs) = vec![in alloc; run] else {
-            return Err(NoMemory);
-        };
-        let Ok(engine) = Box::new(alloc, FailingEngine::make(runs, PlainEngine::new())) else {
+    if let Some((run, place)) = failing {
+        let Ok(engine) = Box::new(alloc, failing_engine(alloc, run, place)?) else {
             return Err(NoMemory);
         };
         engines[0] = engine;
@@ -103,11 +121,11 @@ fn run<R: Threads + Wait + Sync>(
         5,
         failing_calls(alloc, fails == Failing::Sink)?,
     )?;
-    let failing_run = match fails {
-        Failing::Engine { run } => Some(run),
+    let failing = match fails {
+        Failing::Engine { run } => Some((run, 1)),
         _ => None,
     };
-    let status = run_between(rt, alloc, line, &mut source, &mut sink, failing_run)?;
+    let status = run_between(rt, alloc, line, &mut source, &mut sink, failing)?;
     Ok((status, sink.into_bytes()))
 }
 

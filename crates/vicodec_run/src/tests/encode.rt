@@ -99,11 +99,14 @@ fn faults_end_an_encoding(rt: HostRuntime) -> Result<(), Fail> {
         "1",
     ];
     for (outside, status, least, most) in FAULTS {
-        let input = vec![in rt.alloc(); 128; 512]?;
-        let (ended, written) = run_with(&rt, rt.alloc(), line, input, &outside)?;
-        assert_eq!(rt; ended, status);
-        assert!(rt; least <= written.len() && written.len() <= most);
-        assert_eq!(rt; Some(written.as_slice()), FRAMES.get(..written.len()));
+        for engine in 0..3 {
+            let outside = Outside { engine, ..outside };
+            let input = vec![in rt.alloc(); 128; 512]?;
+            let (ended, written) = run_with(&rt, rt.alloc(), line, input, &outside)?;
+            assert_eq!(rt; ended, status);
+            assert!(rt; least <= written.len() && written.len() <= most);
+            assert_eq!(rt; Some(written.as_slice()), FRAMES.get(..written.len()));
+        }
     }
     Ok(())
 }

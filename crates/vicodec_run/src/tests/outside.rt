@@ -8,8 +8,8 @@ use vc_base::NoMemory;
 use vc_io::{MemSink, MemSource};
 use vc_top::Status;
 
-/// What is handed in to a command: how many bytes a read gives and a write takes at most, where 0 counts as 1, and the
-/// number of the read, of the write or of the run that fails.
+/// What is handed in to a command: how many bytes a read gives and a write takes at most, where 0 counts as 1; the number
+/// of the read, of the write or of the run that fails; and the place of the engine of that run among the program's.
 #[derive(Clone, Copy)]
 pub(crate) struct Outside {
     pub(crate) read_step: usize,
@@ -17,6 +17,7 @@ pub(crate) struct Outside {
     pub(crate) write_step: usize,
     pub(crate) failing_write: Option<u64>,
     pub(crate) failing_run: Option<u64>,
+    pub(crate) engine: u32,
 }
 
 /// Nothing fails.
@@ -26,6 +27,7 @@ pub(crate) const SOUND: Outside = Outside {
     write_step: 4096,
     failing_write: None,
     failing_run: None,
+    engine: 0,
 };
 
 /// The list of the number, and an empty list where there is none.
@@ -39,7 +41,7 @@ fn listed(alloc: Global, number: Option<u64>) -> Result<Vec<u64>, NoMemory> {
     Ok(numbers)
 }
 
-/// Runs a command line on an input with such an outside, by plain engines, of which the first may fail: how it ended,
+/// Runs a command line on an input with such an outside, by engines of which the first may fail: how it ended,
 /// and what was written.
 pub(crate) fn run_with<R: Threads + Wait + Sync>(
     rt: &R,
@@ -59,7 +61,7 @@ pub(crate) fn run_with<R: Threads + Wait + Sync>(
         outside.write_step.max(1),
         listed(alloc, outside.failing_write)?,
     )?;
-    let failing_run = outside.failing_run;
-    let status = run_between(rt, alloc, line, &mut source, &mut sink, failing_run)?;
+    let failing = outside.failing_run.map(|run| (run, outside.engine));
+    let status = run_between(rt, alloc, line, &mut source, &mut sink, failing)?;
     Ok((status, sink.into_bytes()))
 }

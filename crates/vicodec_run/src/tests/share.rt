@@ -1,20 +1,14 @@
 //! Pictures of the generator through many encoders at once.
 
-ghost use Rattle.std.specs.Prelude.{◌≡◌, vec_len};
-
 use crate::tests::outside::{Outside, SOUND, run_with};
-use crate::tests::{run_between, words};
+use crate::tests::run_between;
 use std::alloc::Global;
-use std::sync::atomic::{AtomicBool, AtomicU64, Ordering};
-use std::sync::{Arc, Wait};
+use std::sync::Wait;
 use std::test::Fail;
 use std::thread::Threads;
 use vc_base::NoMemory;
-use vc_core::Engine;
-use vc_engine::PlainEngine;
-use vc_fault::{Gate, GatedEngine};
 use vc_io::{MemSink, MemSource};
-use vc_top::{Status, top};
+use vc_top::Status;
 
 /// How a command line ended by plain engines, and what it wrote, with room for all pictures of these tests.
 fn written<R: Threads + Wait + Sync>(
@@ -38,7 +32,7 @@ fn fold(bytes: &[u8]) -> u32 {
 
 /// The lines of contexts that code so many pictures of 32 by 16 samples for these numbers, found by coding the pictures
 /// of one context after another.
-fn lines_alone<R: Threads + Wait + Sync>(
+pub(crate) fn lines_alone<R: Threads + Wait + Sync>(
     rt: &R,
     alloc: Global,
     pictures: &str,
@@ -181,113 +175,5 @@ fn sharing_reads_nothing_and_may_fail(rt: HostRuntime) -> Result<(), Fail> {
         assert_eq!(rt; text.as_slice(), wanted);
         assert_eq!(rt; ended, status);
     }
-    Ok(())
-}
-
-/// How often each gate looks for the other one at most.
-const MOST_LOOKS: u64 = 100_000_000;
-
-/// What one of two gates shows the other, and how often it was looked at.
-#[derive(Drop)]
-struct Side {
-    is_reached: AtomicBool,
-    looks: AtomicU64,
-}
-
-/// A side that nobody has looked at.
-fn new_side() -> Side {
-    Side {
-        is_reached: AtomicBool::new(false),
-        looks: AtomicU64::new(0),
-    }
-}
-
-/// What the gates of two engines share.
-#[derive(Drop)]
-struct Meeting {
-    first: Side,
-    second: Side,
-}
-
-/// The gate of one of the two engines, which is open once a run of the other has begun.
-#[derive(Drop)]
-struct Visitor {
-    meeting: Arc<Meeting, Global>,
-    is_first: bool,
-}
-
-/// Shows that one side is reached, and tells whether the other one is.
-fn meet(mine: &Side, other: &Side) -> bool {
-    mine.looks.fetch_add(1, Ordering::SeqCst);
-    mine.is_reached.store(true, Ordering::SeqCst);
-    other.is_reached.load(Ordering::SeqCst)
-}
-
-impl Gate for Visitor {
-    fn look(&self) -> bool {
-        if self.is_first {
-            meet(&self.meeting.first, &self.meeting.second)
-        } else {
-            meet(&self.meeting.second, &self.meeting.first)
-        }
-    }
-}
-
-/// An engine with a gate of the meeting.
-fn gated_engine(
-    meeting: &Arc<Meeting, Global>,
-    is_first: bool,
-) -> Result<GatedEngine<Visitor, PlainEngine>, Fail> {
-    let meeting = Arc::try_clone(meeting)?;
-    let gate = Visitor { meeting, is_first };
-    Ok(GatedEngine::make(gate, PlainEngine::new()))
-}
-
-/// How a command line ended whose first two engines have the gates of the meeting, and what it wrote.
-fn run_meeting<R: Threads + Wait + Sync>(
-    rt: &R,
-    alloc: Global,
-    meeting: &Arc<Meeting, Global>,
-    line: &[&str],
-) -> Result<(Status, Vec<u8>), Fail> {
-    let words = words(alloc, line)?;
-    let mut source = MemSource::make(Vec::new(alloc), 1, Vec::new(alloc));
-    let mut sink = MemSink::make(alloc, 4096, 4096, Vec::new(alloc))?;
-    let mut engines: Vec<Box<dyn Engine + Send>> = Vec::new(alloc);
-    engines.push(Box::new(alloc, gated_engine(meeting, true)?)?)?;
-    engines.push(Box::new(alloc, gated_engine(meeting, false)?)?)?;
-    for _engine in 2..16u32 {
-        engines.push(Box::new(alloc, PlainEngine::new())?)?;
-    }
-    let status = top(rt, alloc, &words, &mut source, &mut sink, &mut engines);
-    Ok((status, sink.into_bytes()))
-}
-
-/// Two workers run jobs at once: neither run could go on without the other.
-#[test]
-fn two_contexts_are_coded_at_once(rt: HostRuntime) -> Result<(), Fail> {
-    let alloc = rt.alloc();
-    let first = new_side();
-    let second = new_side();
-    let meeting = Arc::new(alloc, Meeting { first, second })?;
-    let line: &[&str] = &[
-        "share",
-        "--contexts",
-        "2",
-        "--pictures",
-        "1",
-        "--width",
-        "32",
-        "--height",
-        "16",
-        "--workers",
-        "2",
-    ];
-    let (status, text) = run_meeting(&rt, alloc, &meeting, line)?;
-    assert_eq!(rt; status, Status::Fine);
-    assert!(rt; meeting.first.looks.load(Ordering::SeqCst) < MOST_LOOKS);
-    assert!(rt; meeting.second.looks.load(Ordering::SeqCst) < MOST_LOOKS);
-    let wanted = lines_alone(&rt, alloc, "1", &["0", "1"])?;
-    assert_eq!(rt; text.as_slice(), wanted.as_slice());
     Ok(())
 }

@@ -3,8 +3,8 @@ use Rattle.vc_defs.specs.Raw.{yu12, geometry_of}
 use Rattle.vc_work.specs.Runs.{HasGeometry}
 use Rattle.pipeline_rows.proofs.alone.code_all.Given as goal
 
-abbrev pub invariant-loop-number : goal.invariant-loop-number
-invariant-loop-number l = record {
+abbrev pub invariant-loop-place : goal.invariant-loop-place
+invariant-loop-place l = record {
   picture : vec_len l.picture ≡ 152064;
   frame : vec_len l.frame ≡ 152108;
   size : l.reference.size ≡ 152064;
