@@ -250,7 +250,7 @@ class Device:
         return job
 
     def finish(self, job: Job) -> str:
-        """Brings a job back, and tells how it ended: one of `ENDS`. A job that was not run ends with `fault`."""
+        """Brings a job back, and tells how it ended: one of `ENDS`."""
         end = ctypes.c_uint8()
         _check(self._library.sirgumba_finish(ctypes.byref(self._handle), ctypes.byref(job._handle), ctypes.byref(end)))
         self._jobs -= 1
