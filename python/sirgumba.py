@@ -17,9 +17,10 @@ OSError with the errno; one that would wait in a driver raises `Blocked`, and is
         device.run()
         print(slot.take("cap").payload)
 
-Jobs run where the caller wants. `Device.run` claims a job, runs it and brings it back. `Device.claim` gives a `Job`, whose
-`run` releases the interpreter's lock and needs no lock of the device, so that a thread can run it while others make calls.
-All else on one device is done by one thread at a time: threads that share a device take a lock round every call but `Job.run`.
+`Device.run` claims a job, runs it and brings it back. `Device.claim` gives a `Job`, which is run and then brought back by
+`Device.finish`. As yet a job stays in its device and runs inside of `finish` (c/jobs.c); a program that runs each job once,
+before it finishes it, can stay as it is when that changes. Calls on one device are made by one thread at a time: threads that
+share a device take a lock round every call but `Job.run`.
 """
 
 import ctypes
@@ -182,7 +183,7 @@ class Job:
         self.slot = 0
 
     def run(self) -> None:
-        """Runs the job. It needs no lock of the device."""
+        """Runs the job, before it is finished. It needs no lock of the device."""
         _check(self._library.sirgumba_run(ctypes.byref(self._handle)))
 
 
@@ -249,7 +250,7 @@ class Device:
         return job
 
     def finish(self, job: Job) -> str:
-        """Brings a job back, and tells how it ended: one of `ENDS`. A job that was not run ends with `fault`."""
+        """Brings a job back, and tells how it ended: one of `ENDS`."""
         end = ctypes.c_uint8()
         _check(self._library.sirgumba_finish(ctypes.byref(self._handle), ctypes.byref(job._handle), ctypes.byref(end)))
         self._jobs -= 1

@@ -176,23 +176,6 @@ class Jobs(unittest.TestCase):
             self.assertEqual(device.finish(job), "copied")
             self.assertEqual(slot.take("cap").payload, b"\x01\x02")
 
-    def test_messages_of_a_worker_whose_job_is_out(self):
-        with sirgumba.Device(1) as device:
-            self.copier(device, 0)
-            job = device.claim(3)
-            for operation in (0x20, 0x21):
-                with self.assertRaises(sirgumba.LibraryError):
-                    device.answer(bytes([operation, 0, 0, 0, 3]))
-            self.assertEqual(device.answer(bytes([0x21, 0, 0, 0, 4])), b"\x54")
-            job.run()
-            device.finish(job)
-
-    def test_a_job_that_was_not_run_is_given_up(self):
-        with sirgumba.Device(1) as device:
-            slot = self.copier(device, 0)
-            self.assertEqual(device.finish(device.claim()), "fault")
-            self.assertNotEqual(slot.take("cap").flags & 0x40, 0)
-
     def test_a_device_with_a_job_out_is_not_freed(self):
         device = sirgumba.Device(1)
         self.copier(device, 0)
