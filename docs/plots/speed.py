@@ -54,7 +54,7 @@ def rates(figures, way):
     chart = Chart(f"Pictures a second of processor time: {way}", 60 + height + 44, [])
     # Room at the right for the words behind the longest bar.
     ticks = steps(greatest)
-    panel = Panel(chart, 40, height, Scale(0, ticks[-1] * 1.55, ticks, "pictures a second"), Scale(0, 1, [], ""))
+    panel = Panel(chart, 40, height, Scale(0, ticks[-1] * 1.9, ticks, "pictures a second"), Scale(0, 1, [], ""))
     place = 0
     for content, rows in groups:
         chart.words(panel.x(0) + 5, panel.top + LINE * place + 14, CONTENTS[content], kind="name")
