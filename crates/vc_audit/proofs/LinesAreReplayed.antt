@@ -1,10 +1,10 @@
 -- The replay of a line: what the device prints at the events that are read off the report, from what the steps of the line came
 -- to. Memory and faults are read off the report's lines, and all else is the device's own.
-use Rattle.std.proofs.Common.{ℕ, ◌≡◌, ◌&&◌, Bool, true, false, not, cond, is_none, Option, Some, None, List, [], ◌∷◌, ◌++◌, length, get_or, refl, sym, ap, ◌∙◌, subst, inl, inr, append_assoc}
+use Rattle.std.proofs.Common.{ℕ, ◌≡◌, ◌&&◌, Bool, true, false, not, cond, is_none, Option, Some, None, List, [], ◌∷◌, ◌++◌, length, get_or, refl, sym, ap, ◌∙◌, subst, inl, inr, arith, append_assoc}
 use Rattle.std.specs.Prelude.{◌⊎◌}
 use Rattle.std.proofs.lemmas.List.{append-nil}
 use Rattle.std.proofs.lemmas.Bool.{true≢false}
-use Rattle.vc_base.specs.Counts.{Rose}
+use Rattle.vc_base.specs.Counts.{OneMore, Rose}
 use Rattle.vc_base.specs.declared.Errno.TheVariants.{NoMem}
 use Rattle.vc_base.specs.declared.Call.{Call}
 use Rattle.vc_base.specs.declared.Reply.{Reply}
@@ -228,8 +228,12 @@ fault_of old desk worker fault before now faults faults' true k f = absurd (true
 
 -- Jobs
 
+one_more_rose : (n m : ℕ) → OneMore n m → Rose n m
+one_more_rose n m (inl e) = inl (omega (arith, e))
+one_more_rose n m (inr top) = inr top
+
 tells_rose : (fault : Bool) (runs runs' faults faults' : ℕ) → Tells fault runs runs' faults faults' → (fault ≡ false) ⊎ Rose faults faults'
-tells_rose true runs runs' faults faults' t = inr t.0
+tells_rose true runs runs' faults faults' t = inr (one_more_rose faults faults' t.0)
 tells_rose false runs runs' faults faults' t = inl refl
 
 pub run_as :

@@ -1,6 +1,6 @@
 -- What a job has, and what is brought back of it.
 use Rattle.std.specs.Prelude.{ℕ, ◌≡◌, ◌≤◌, is_err, Bool, true, false, Option, Some, None, List, [], ◌∷◌}
-use Rattle.vc_base.specs.Counts.{OneMore, Rose}
+use Rattle.vc_base.specs.Counts.{OneMore}
 use Rattle.vc_model.specs.Context.{Slot}
 use Rattle.vc_model.specs.Runs.{JobData}
 use Rattle.vc_model.specs.Core.{BroughtBack}
@@ -24,10 +24,9 @@ pub record Brings (k : ℕ) (back : BroughtBack) (finished : Finished) : Type 0 
   pub slot : finished.slot ≡ k
   pub is_back : IsBack back finished.work finished.outcome
 
--- After a run without fault the count of runs rose by one, after a fault the count of faults rose. None
--- fell.
+-- After a run without fault the count of runs rose by one, after a fault the count of faults. None fell.
 abbrev pub Tells : Bool → ℕ → ℕ → ℕ → ℕ → Type 0
-Tells true runs runs' faults faults' = Rose faults faults' × (runs ≤ runs') × (faults ≤ faults')
+Tells true runs runs' faults faults' = OneMore faults faults' × (runs ≤ runs') × (faults ≤ faults')
 Tells false runs runs' faults faults' = OneMore runs runs' × (runs ≤ runs') × (faults ≤ faults')
 
 abbrev pub RunsInSlot : Slot → JobData → Type 0

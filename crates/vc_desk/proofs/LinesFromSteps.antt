@@ -9,7 +9,7 @@ use Rattle.vc_base.specs.declared.Call.{Call}
 use Rattle.vc_base.specs.declared.Call.TheVariants.{Open, Close, EnumFmt, GetFmt, TryFmt, SetFmt, ReqBufs, CreateBufs, QueryBuf, QBuf, DqBuf, StreamOn, StreamOff, Subscribe, Unsubscribe, DqEvent, DecCmd, EncCmd, GetCtrl, SetCtrl, Poll}
 use Rattle.vc_base.specs.declared.Reply.{Reply}
 use Rattle.vc_base.specs.declared.Reply.TheVariants.{Done, Desc, Fmt, Count, Created, Info, Taken, Happened, Value, Ready, Refused, Blocked}
-use Rattle.vc_base.specs.Counts.{OneMore, Rose}
+use Rattle.vc_base.specs.Counts.{OneMore}
 use Rattle.vc_base.specs.Device.{DeviceEvent, call, claim, finish}
 use Rattle.vc_model.specs.Coder.{the_coder}
 use Rattle.vc_model.specs.Devices.{Told, new_device, job_of, device_step}
@@ -45,16 +45,12 @@ one_more : (n m : ℕ) → OneMore n m → RoseBy 1 n m
 one_more n m (inl e) = inl (omega (arith, e))
 one_more n m (inr top) = inr top
 
-rose_more : (n m : ℕ) → Rose n m → RoseBy 1 n m
-rose_more n m (inl l) = inl (omega (arith, l))
-rose_more n m (inr top) = inr top
-
 no_finish : (runs runs' faults faults' : ℕ) → runs ≤ runs' → faults ≤ faults' → IsCounted [] runs runs' faults faults'
 no_finish runs runs' faults faults' a b = record { ran = no_more runs runs' a; failed = no_more faults faults' b }
 
 told_finish : (worker : ℕ) (fault : Bool) (runs runs' faults faults' : ℕ) → Tells fault runs runs' faults faults' → IsCounted (finish worker fault ∷ []) runs runs' faults faults'
 told_finish worker true runs runs' faults faults' t =
-    record { ran = no_more runs runs' t.1; failed = rose_more faults faults' t.0 }
+    record { ran = no_more runs runs' t.1; failed = one_more faults faults' t.0 }
 told_finish worker false runs runs' faults faults' t =
     record { ran = one_more runs runs' t.0; failed = no_more faults faults' t.2 }
 

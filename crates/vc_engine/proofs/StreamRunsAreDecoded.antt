@@ -8,7 +8,7 @@ use Rattle.std.proofs.lemmas.List.{drop-take, length-take}
 use Rattle.vc_defs.specs.declared.Geometry.{Geometry}
 use Rattle.vc_defs.specs.Decoder.{ReferenceState, DecodedStep, DecodedResult, picture, damaged, changed, spent, decode, step_outcome}
 use Rattle.vc_resync.specs.Assembling.{AssemblyState}
-use Rattle.vc_work.specs.References.{CodecReference}
+use Rattle.vc_work.specs.References.{CodecReference, with_picture}
 use Rattle.vc_work.specs.Streams.{decoder_of, picture_of, kept_of, IsInStep, HasStream}
 use Rattle.vc_work.specs.Runs.{told_as, shown_in, BringsLegal, dest_bytes, stream_state, fresh_bytes, next_result, result_of, IsDecoded, Does}
 use Rattle.vc_work.specs.Runs.{geometry_behind as geometry_after_result}
@@ -107,30 +107,35 @@ leaves w before after a b geometry fresh count d p is g l f moved answers state 
 
 pub decoded_is : (w new : Work) (b : AssemblyState) (after : Option ReferenceState) (count : ℕ) (d : Decoded) → Leaves w after b count d → w.source.cursor ≤ w.source.used → count ≤ w.source.used - w.source.cursor →
     new.source.cursor ≡ w.source.cursor + count → picture_of new.reference ≡ after → new.assembly ≡ Some b → dest_bytes new ≡ option_map (shown_in (result_of w)) (dest_bytes w) →
-    IsDecoded w new (result_of w)
-decoded_is w new b after count d l inside most cursor has assembly dest = record {
+    new.reference ≡ option_map (with_picture (next_result w).state.reference) w.reference → IsDecoded w new (result_of w)
+decoded_is w new b after count d l inside most cursor has assembly dest reference = record {
   cursor = cursor ∙ ap (λ n. w.source.cursor + n) l.moved;
   inside = omega (arith, cursor, inside, most);
   dest = dest;
   state = ap (λ (o : Option AssemblyState). decoder_of (picture_of new.reference) (kept_of o)) assembly ∙ ap (λ (r : Option ReferenceState). decoder_of r b.kept) has ∙ l.state;
+  reference = reference;
   stream = subst (λ (o : Option AssemblyState). HasStream w.limit (geometry_after_result (result_of w) w.geometry) (picture_of new.reference) o) (sym assembly)
       (subst (λ (r : Option ReferenceState). HasStream w.limit (geometry_after_result (result_of w) w.geometry) r (Some b)) (sym has) l.stream);
   legal = l.legal;
 }
 
 pub probe_does : (w new : Work) (b : AssemblyState) (count : ℕ) (d : Decoded) (outcome : Outcome) → w.sort ≡ Probe → Leaves w None b count d → w.source.cursor ≤ w.source.used → count ≤ w.source.used - w.source.cursor → IsOfHeaders d → outcome ≡ outcome_of d →
-    new.source.cursor ≡ w.source.cursor + count → picture_of new.reference ≡ None → new.assembly ≡ Some b → dest_bytes new ≡ dest_bytes w →
+    new.source.cursor ≡ w.source.cursor + count → w.reference ≡ None → new.reference ≡ None → new.assembly ≡ Some b → dest_bytes new ≡ dest_bytes w →
     Does w.sort w new outcome
-probe_does w new b count d outcome sort l inside most headers is cursor reference assembly dest =
+probe_does w new b count d outcome sort l inside most headers is cursor before reference assembly dest =
     subst (λ (s : Sort). Does s w new outcome) (sym sort)
-    (is ∙ told_is (result_of w) d l.answers, decoded_is w new b None count d l inside most cursor reference assembly (dest ∙ nothing_shown_in (result_of w) d (dest_bytes w) l.answers headers))
+    (is ∙ told_is (result_of w) d l.answers,
+    decoded_is w new b None count d l inside most cursor (ap picture_of reference) assembly (dest ∙ nothing_shown_in (result_of w) d (dest_bytes w) l.answers headers)
+    (reference ∙ ap (λ (o : Option CodecReference). option_map (with_picture (next_result w).state.reference) o) (sym before)))
 
-pub decode_does : (w new : Work) (b : AssemblyState) (after : CodecReference) (count : ℕ) (d : Decoded) (outcome : Outcome) → w.sort ≡ Decode → Leaves w after.state.reference b count d → w.source.cursor ≤ w.source.used → count ≤ w.source.used - w.source.cursor → outcome ≡ outcome_of d →
-    new.source.cursor ≡ w.source.cursor + count → new.reference ≡ Some after → new.assembly ≡ Some b → dest_bytes new ≡ option_map (shown_in (result_of w)) (dest_bytes w) →
+pub decode_does : (w new : Work) (b : AssemblyState) (before after : CodecReference) (count : ℕ) (d : Decoded) (outcome : Outcome) → w.sort ≡ Decode → Leaves w after.state.reference b count d → w.source.cursor ≤ w.source.used → count ≤ w.source.used - w.source.cursor → outcome ≡ outcome_of d →
+    new.source.cursor ≡ w.source.cursor + count → w.reference ≡ Some before → after ≡ with_picture (next_result w).state.reference before →
+    new.reference ≡ Some after → new.assembly ≡ Some b → dest_bytes new ≡ option_map (shown_in (result_of w)) (dest_bytes w) →
     Does w.sort w new outcome
-decode_does w new b after count d outcome sort l inside most is cursor reference assembly dest =
+decode_does w new b before after count d outcome sort l inside most is cursor there shows reference assembly dest =
     subst (λ (s : Sort). Does s w new outcome) (sym sort)
-    (is ∙ told_is (result_of w) d l.answers, decoded_is w new b after.state.reference count d l inside most cursor (ap picture_of reference) assembly dest)
+    (is ∙ told_is (result_of w) d l.answers, decoded_is w new b after.state.reference count d l inside most cursor (ap picture_of reference) assembly dest
+    (reference ∙ ap (λ (r : CodecReference). Some r) shows ∙ ap (λ (o : Option CodecReference). option_map (with_picture (next_result w).state.reference) o) (sym there)))
 
 -- the destination of a decode run
 pub dest_is : (w : Work) (old now new : List ℕ) (step : DecodedStep) → step ≡ next_result w → dest_bytes w ≡ Some old → now ≡ old → new ≡ shown_in (step_outcome w.format.fourcc step) now → Some new ≡ option_map (shown_in (result_of w)) (dest_bytes w)

@@ -1,7 +1,7 @@
 //! The engine over a coder of blocks.
 
 ghost use Rattle.std.specs.Prelude.{◌≡◌, ◌≤◌, IfOk, IfErr, IsOk};
-ghost use Rattle.vc_base.specs.Counts.{OneMore, Rose};
+ghost use Rattle.vc_base.specs.Counts.{OneMore};
 ghost use Rattle.vc_work.specs.Runs.{Fits, IsRun, KeepsLengths};
 
 use crate::runs::run_with;
@@ -47,7 +47,7 @@ impl<C: BlockCoder + Drop> Engine for CodecEngine<C> {
         requires fits { Fits work.old }
         ensures outcome { IfOk result (IsRun work.old work.new) }
         ensures ran { IfOk result (λ _. OneMore (⟦<CodecEngine<C> as Engine>⟧.run_count self.old) (⟦<CodecEngine<C> as Engine>⟧.run_count self.new)) }
-        ensures failed { IfErr result (λ _. Rose (⟦<CodecEngine<C> as Engine>⟧.fault_count self.old) (⟦<CodecEngine<C> as Engine>⟧.fault_count self.new)) }
+        ensures failed { IfErr result (λ _. OneMore (⟦<CodecEngine<C> as Engine>⟧.fault_count self.old) (⟦<CodecEngine<C> as Engine>⟧.fault_count self.new)) }
         ensures runs_stay { ⟦<CodecEngine<C> as Engine>⟧.run_count self.old ≤ ⟦<CodecEngine<C> as Engine>⟧.run_count self.new }
         ensures faults_stay { ⟦<CodecEngine<C> as Engine>⟧.fault_count self.old ≤ ⟦<CodecEngine<C> as Engine>⟧.fault_count self.new }
         ensures lengths { KeepsLengths work.old work.new }

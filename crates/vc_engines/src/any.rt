@@ -1,7 +1,7 @@
 //! An engine of any of three kinds.
 
 ghost use Rattle.std.specs.Prelude.{◌≡◌, ◌≤◌, IfOk, IfErr};
-ghost use Rattle.vc_base.specs.Counts.{OneMore, Rose};
+ghost use Rattle.vc_base.specs.Counts.{OneMore};
 ghost use Rattle.vc_work.specs.Runs.{Fits, IsRun, KeepsLengths};
 ghost use Rattle.vc_engines.specs.Kinds.{kind_of, of_any};
 
@@ -50,7 +50,7 @@ impl<L: Engine, P: Engine, F: Engine> Engine for AnyEngine<L, P, F> {
         requires fits { Fits work.old }
         ensures outcome { IfOk result (IsRun work.old work.new) }
         ensures ran { let runs = of_any L.run_count P.run_count F.run_count in IfOk result (λ _. OneMore (runs self.old) (runs self.new)) }
-        ensures failed { let faults = of_any L.fault_count P.fault_count F.fault_count in IfErr result (λ _. Rose (faults self.old) (faults self.new)) }
+        ensures failed { let faults = of_any L.fault_count P.fault_count F.fault_count in IfErr result (λ _. OneMore (faults self.old) (faults self.new)) }
         ensures runs_stay { let runs = of_any L.run_count P.run_count F.run_count in runs self.old ≤ runs self.new }
         ensures faults_stay { let faults = of_any L.fault_count P.fault_count F.fault_count in faults self.old ≤ faults self.new }
         ensures lengths { KeepsLengths work.old work.new }

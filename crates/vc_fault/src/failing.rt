@@ -1,7 +1,7 @@
 //! An engine that fails at chosen runs.
 
 ghost use Rattle.std.specs.Prelude.{◌≡◌, ◌≤◌, ◌↔◌, IfOk, IfErr, IsErr, IsTrue};
-ghost use Rattle.vc_base.specs.Counts.{OneMore, Rose};
+ghost use Rattle.vc_base.specs.Counts.{OneMore};
 ghost use Rattle.vc_work.specs.Runs.{Fits, IsRun, KeepsLengths};
 ghost use Rattle.vc_fault.specs.Failing.{FailsAt, all_faults};
 
@@ -59,13 +59,13 @@ impl<E: Engine> Engine for FailingEngine<E> {
         requires fits { Fits work.old }
         ensures outcome { IfOk result (IsRun work.old work.new) }
         ensures ran { IfOk result (λ _. OneMore (E.run_count self.old.inner) (E.run_count self.new.inner)) }
-        ensures failed { IfErr result (λ _. Rose (all_faults self.old.own (E.fault_count self.old.inner)) (all_faults self.new.own (E.fault_count self.new.inner))) }
+        ensures failed { IfErr result (λ _. OneMore (all_faults self.old.own (E.fault_count self.old.inner)) (all_faults self.new.own (E.fault_count self.new.inner))) }
         ensures runs_stay { E.run_count self.old.inner ≤ E.run_count self.new.inner }
         ensures faults_stay { all_faults self.old.own (E.fault_count self.old.inner) ≤ all_faults self.new.own (E.fault_count self.new.inner) }
         ensures lengths { KeepsLengths work.old work.new }
         ensures listed { FailsAt self.old.fails self.old.calls → IsErr result }
         ensures untouched { FailsAt self.old.fails self.old.calls → self.new.inner ≡ self.old.inner }
-        ensures other { ¬ FailsAt self.old.fails self.old.calls → IfErr result (λ _. Rose (E.fault_count self.old.inner) (E.fault_count self.new.inner)) }
+        ensures other { ¬ FailsAt self.old.fails self.old.calls → IfErr result (λ _. OneMore (E.fault_count self.old.inner) (E.fault_count self.new.inner)) }
         ensures own { ¬ FailsAt self.old.fails self.old.calls → self.new.own ≡ self.old.own }
         ensures calls { OneMore self.old.calls self.new.calls }
         ensures list_stays { self.new.fails ≡ self.old.fails }

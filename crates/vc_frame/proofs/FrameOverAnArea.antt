@@ -20,7 +20,8 @@ use Rattle.vc_defs.proofs.StateBetweenRuns.{geometry_same}
 use Rattle.vc_defs.proofs.RawBothWays.{raw_has_its_size}
 use Rattle.vc_defs.proofs.DecodedIsPicture.{decoded_is_picture}
 use Rattle.vc_work.specs.References.{CodecReference, reference_of, picture_in, plane_total, picture_total}
-use Rattle.vc_frame.specs.Frames.{with_picture, picture_of, shown_over}
+use Rattle.vc_work.specs.References.{with_picture}
+use Rattle.vc_frame.specs.Frames.{picture_of, shown_over}
 use Rattle.vc_frame.specs.Order.{IsRawOf}
 use Rattle.vc_frame.proofs.IFramesNeedNoReference.{intra_body}
 use Rattle.vc_frame.proofs.RawOrdersBothWays.{raw_total}

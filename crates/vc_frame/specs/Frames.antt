@@ -9,15 +9,7 @@ use Rattle.vc_defs.specs.declared.Header.{Header}
 use Rattle.vc_defs.specs.Bodies.{plane_shapes, body_planes}
 use Rattle.vc_defs.specs.Raw.{raw_of, cut_into}
 use Rattle.vc_defs.specs.Decoder.{ReferenceState}
-use Rattle.vc_work.specs.References.{CodecReference}
 use Rattle.vc_work.specs.Runs.{put_over}
-
--- the reference with this picture, or with none; what it counts stays
-abbrev pub with_picture : Option ReferenceState → CodecReference → CodecReference
-with_picture picture r = record {
-  size = r.size;
-  state = record { reference = picture; since_key = r.state.since_key; since_reset = r.state.since_reset };
-}
 
 -- the picture that a frame gives, where it gives planes
 abbrev pub picture_of : Header → Option (List (List ℕ)) → Option ReferenceState

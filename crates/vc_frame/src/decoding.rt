@@ -4,8 +4,8 @@ ghost use Rattle.std.specs.Prelude.{◌≡◌, ◌≤◌, ◌↔◌, ◌||◌, l
 ghost use Rattle.vc_defs.specs.Headers.{is_legal, is_legal_geometry, is_legal_number};
 ghost use Rattle.vc_base.specs.Limits.{most_bytes};
 ghost use Rattle.vc_defs.specs.Decoder.{same_geometry, is_next_number, follows_reference, frame_planes};
-ghost use Rattle.vc_work.specs.References.{picture_total};
-ghost use Rattle.vc_frame.specs.Frames.{with_picture, picture_of, planes_in, body_over, shown_over};
+ghost use Rattle.vc_work.specs.References.{picture_total, with_picture};
+ghost use Rattle.vc_frame.specs.Frames.{picture_of, planes_in, body_over, shown_over};
 ghost use Rattle.vc_frame.specs.Order.{IsRawOf};
 
 use crate::order::put_raw;

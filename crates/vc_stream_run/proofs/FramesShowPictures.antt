@@ -19,8 +19,8 @@ use Rattle.vc_defs.specs.Decoder.{BetweenFrames, ReferenceState, same_geometry, 
 use Rattle.vc_defs.proofs.StateBetweenRuns.{geometry_same}
 use Rattle.vc_defs.proofs.RawBothWays.{raw_has_its_size}
 use Rattle.vc_defs.proofs.DecodedIsPicture.{decoded_is_picture}
-use Rattle.vc_work.specs.References.{CodecReference, picture_total}
-use Rattle.vc_frame.specs.Frames.{with_picture, picture_of, shown_over}
+use Rattle.vc_work.specs.References.{CodecReference, picture_total, with_picture}
+use Rattle.vc_frame.specs.Frames.{picture_of, shown_over}
 use Rattle.vc_frame.proofs.RawOrdersBothWays.{raw_total}
 use Rattle.vc_stream_run.specs.declared.decoded.Decoded.TheVariants.{Picture}
 use Rattle.vc_stream_run.specs.Steps.{RunPoint, present_of, ended_by}

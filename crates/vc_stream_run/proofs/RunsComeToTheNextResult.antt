@@ -17,8 +17,7 @@ use Rattle.vc_defs.specs.Laws.{kept_at, state_at, present_at}
 use Rattle.vc_defs.proofs.BlocksAreRead.{some_same}
 use Rattle.vc_resync.specs.Decoding.{RunEnd, run_later, Feeds, used_up, gives, goes_on, InStep, IsRun, EndsInStep}
 use Rattle.vc_resync.proofs.RunsAreFeeds as resync
-use Rattle.vc_work.specs.References.{CodecReference}
-use Rattle.vc_frame.specs.Frames.{with_picture}
+use Rattle.vc_work.specs.References.{CodecReference, with_picture}
 use Rattle.vc_stream_run.specs.declared.decoded.Decoded.{Decoded}
 use Rattle.vc_stream_run.specs.declared.decoded.Decoded.TheVariants.{Spent}
 use Rattle.vc_stream_run.specs.Running.{decoder_of, answer_of, shown_in, IsInStep}

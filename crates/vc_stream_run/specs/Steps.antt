@@ -10,8 +10,7 @@ use Rattle.vc_defs.specs.declared.Header.{Header}
 use Rattle.vc_defs.specs.Places.{Frame}
 use Rattle.vc_defs.specs.Finds.{Find, Ended}
 use Rattle.vc_defs.specs.Decoder.{GivenResult, BetweenFrames, ReferenceState, outcome_of, given_at_header, given_by_find}
-use Rattle.vc_work.specs.References.{CodecReference}
-use Rattle.vc_frame.specs.Frames.{with_picture}
+use Rattle.vc_work.specs.References.{CodecReference, with_picture}
 use Rattle.vc_resync.specs.Assembling.{ToldFrame, found_of, frame_of}
 use Rattle.vc_resync.specs.declared.feeding.Found.{Found}
 use Rattle.vc_resync.specs.declared.feeding.Found.TheVariants.{More, Head, Whole, Cut}

@@ -9,7 +9,7 @@ ghost use Rattle.vc_defs.specs.Finds.{Find};
 ghost use Rattle.vc_defs.specs.Decoder.{is_passed_over, is_change};
 ghost use Rattle.vc_defs.specs.Laws.{IsRawFormat};
 ghost use Rattle.vc_defs.specs.Raw.{geometry_of};
-ghost use Rattle.vc_frame.specs.Frames.{with_picture};
+ghost use Rattle.vc_work.specs.References.{with_picture};
 ghost use Rattle.vc_resync.specs.Assembling.{found_of, IsToldBy, IsLegalAnswer};
 ghost use Rattle.vc_stream_run.specs.Steps.{run_point, IsAfterHeader, IsAfterCut, IsAfterWhole, IsAfterFound, HasPresent, EndsPresent, probed_at};
 ghost use Rattle.vc_stream_run.specs.Running.{IsOfHeaders};

@@ -5,7 +5,7 @@ ghost use Rattle.vc_base.specs.declared.Fourcc.{Fourcc};
 ghost use Rattle.vc_defs.specs.Decoder.{step_outcome};
 ghost use Rattle.vc_defs.specs.Laws.{IsRawFormat};
 ghost use Rattle.vc_defs.specs.Raw.{geometry_of};
-ghost use Rattle.vc_frame.specs.Frames.{with_picture};
+ghost use Rattle.vc_work.specs.References.{with_picture};
 ghost use Rattle.vc_stream_run.specs.Running.{decoder_of, next_of, next_of_probe, answer_of, shown_in, geometry_behind, IsInStep, IsOfHeaders, IsLegalChange};
 
 use crate::decoded::Decoded;

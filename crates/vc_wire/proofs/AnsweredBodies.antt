@@ -14,7 +14,7 @@ use Rattle.vc_base.specs.declared.Call.TheVariants.{Open, Close, EnumFmt, GetFmt
 use Rattle.vc_base.specs.declared.Call.TheVariants.{Subscribe, Unsubscribe, DqEvent, DecCmd, EncCmd, GetCtrl, SetCtrl, Poll}
 use Rattle.vc_base.specs.declared.Reply.{Reply}
 use Rattle.vc_base.specs.declared.Reply.TheVariants.{Done, Desc, Fmt, Count, Created, Info, Taken, Happened, Value, Ready, Refused, Blocked}
-use Rattle.vc_base.specs.Counts.{OneMore, Rose}
+use Rattle.vc_base.specs.Counts.{OneMore}
 use Rattle.vc_base.specs.Device.{DeviceEvent, call, claim, finish}
 use Rattle.vc_base.specs.Errnos.{errno_number}
 use Rattle.vc_model.specs.Coder.{Coder, the_coder}
@@ -150,13 +150,9 @@ one_more : (n m : ℕ) → OneMore n m → RoseBy 1 n m
 one_more n m (inl e) = inl (omega (arith, e))
 one_more n m (inr top) = inr top
 
-rose_more : (n m : ℕ) → Rose n m → RoseBy 1 n m
-rose_more n m (inl l) = inl (omega (arith, l))
-rose_more n m (inr top) = inr top
-
 finish_counted : (worker : ℕ) (fault : Bool) (runs runs' faults faults' : ℕ) → Tells fault runs runs' faults faults' → IsCounted (finish worker fault ∷ []) runs runs' faults faults'
 finish_counted worker true runs runs' faults faults' t =
-    record { ran = inl (omega (arith, t.1)); failed = rose_more faults faults' t.0 }
+    record { ran = inl (omega (arith, t.1)); failed = one_more faults faults' t.0 }
 finish_counted worker false runs runs' faults faults' t =
     record { ran = one_more runs runs' t.0; failed = inl (omega (arith, t.2)) }
 

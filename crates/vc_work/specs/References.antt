@@ -28,6 +28,13 @@ reference_of area geometry number since_key since_reset =
       state = record { reference = picture_in geometry number area; since_key = since_key; since_reset = since_reset };
     }
 
+-- the reference with this picture, or with none; what it counts stays
+abbrev pub with_picture : Option ReferenceState → CodecReference → CodecReference
+with_picture picture r = record {
+  size = r.size;
+  state = record { reference = picture; since_key = r.state.since_key; since_reset = r.state.since_reset };
+}
+
 -- the samples of planes of these sizes
 abbrev pub plane_total : List (ℕ × ℕ) → ℕ
 plane_total [] = 0

@@ -11,7 +11,7 @@ use Rattle.vc_defs.specs.Decoder.{ReferenceState, DecoderState, DecodedStep, Dec
 use Rattle.vc_defs.specs.Encoder.{RunRates, EncoderState, EncodedFrame, encode, fresh_encoder}
 use Rattle.vc_defs.specs.Laws.{IsRawFormat, AreRates}
 use Rattle.vc_resync.specs.Assembling.{AssemblyState}
-use Rattle.vc_work.specs.References.{CodecReference}
+use Rattle.vc_work.specs.References.{CodecReference, with_picture}
 use Rattle.vc_work.specs.Streams.{decoder_of, picture_of, kept_of, HasStream}
 use Rattle.vc_work.specs.declared.work.Sort.{Sort}
 use Rattle.vc_work.specs.declared.work.Sort.TheVariants.{Copy, Encode, Probe, Decode}
@@ -185,12 +185,13 @@ BringsLegal (changed geometry) = is_legal_geometry geometry ≡ true
 BringsLegal spent = Unit {0}
 
 -- A run of a decoder, or a probe, consumes the source up to the next result: what it tells, what it shows in the
--- destination, and what is kept for the next run.
+-- destination, and what is kept for the next run. Of the reference it changes the picture alone.
 pub record IsDecoded (old new : Work) (result : DecodedResult) : Type 0 where
   pub cursor : new.source.cursor ≡ old.source.cursor + (next_result old).moved
   pub inside : new.source.cursor ≤ old.source.used
   pub dest : dest_bytes new ≡ option_map (shown_in result) (dest_bytes old)
   pub state : stream_state new ≡ (next_result old).state
+  pub reference : new.reference ≡ option_map (with_picture (next_result old).state.reference) old.reference
   pub stream : HasStream old.limit (geometry_behind result old.geometry) (picture_of new.reference) new.assembly
   pub legal : BringsLegal result
 

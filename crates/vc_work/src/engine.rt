@@ -1,7 +1,7 @@
 //! Engines, which run jobs.
 
 ghost use Rattle.std.specs.Prelude.{◌≡◌, ℕ, ◌≤◌, IfOk, IfErr};
-ghost use Rattle.vc_base.specs.Counts.{OneMore, Rose};
+ghost use Rattle.vc_base.specs.Counts.{OneMore};
 ghost use Rattle.vc_work.specs.Runs.{Fits, IsRun, KeepsLengths};
 
 use crate::work::Work;
@@ -44,7 +44,7 @@ pub trait Engine: Drop {
         requires fits { Fits work.old }
         ensures outcome { IfOk result (IsRun work.old work.new) }
         ensures ran { IfOk result (λ _. OneMore (run_count self.old) (run_count self.new)) }
-        ensures failed { IfErr result (λ _. Rose (fault_count self.old) (fault_count self.new)) }
+        ensures failed { IfErr result (λ _. OneMore (fault_count self.old) (fault_count self.new)) }
         ensures runs_stay { run_count self.old ≤ run_count self.new }
         ensures faults_stay { fault_count self.old ≤ fault_count self.new }
         ensures lengths { KeepsLengths work.old work.new };

@@ -47,7 +47,7 @@ gained_one l m n job true r s f g e e' t = record {
   jobs = record { job = job; fault = true } ∷ [];
   worked = e' ∙ (ap (λ (z : List Worked). z ++ gave_back true ∷ []) e ∙ append_assoc l (took job ∷ []) (gave_back true ∷ []));
   ran = inl (omega (arith, t.1));
-  failed = ⊎_elim (λ (p : f < g). inl (omega arith)) (λ (p : top_count ≤ g). inr p) t.0;
+  failed = ⊎_elim (λ (p : g ≡ f + 1). inl (omega arith)) (λ (p : top_count ≤ g). inr p) t.0;
   runs_stay = t.1;
   faults_stay = t.2;
 }

@@ -2,7 +2,8 @@ use Rattle.std.proofs.Common.{◌≡◌, ◌∙◌, ap, refl, subst, arith, Some
 use Rattle.std.specs.Vec.{with_items}
 use Rattle.std.proofs.lemmas.List.{with_items_is}
 use Rattle.std.specs.Option.{option_map}
-use Rattle.vc_defs.specs.Decoder.{decode}
+use Rattle.vc_defs.specs.Decoder.{DecodedStep, decode}
+use Rattle.vc_work.specs.References.{with_picture}
 use Rattle.vc_work.specs.Streams.{picture_of, decoder_of}
 use Rattle.vc_work.specs.Runs.{HasFrames, HasAll, fresh_bytes}
 use Rattle.vc_work.specs.declared.work.Sort.{Sort}
@@ -23,6 +24,7 @@ returns-clause-run g c =
     let stream = stream_has w.limit w.geometry (picture_of w.reference) w.assembly a c.in-Some-assembly.is h.stream in
     let fresh : List ℕ = take (w.source.used - w.source.cursor) (drop w.source.cursor c.deref.result.now) in
     let cut : fresh ≡ fresh_bytes w = fresh_is c.deref.result.now w.source.payload.items w.source.cursor w.source.used c.deref.ensures.value h.cursor in
+    let same = same_step w before.state.reference a (Some geometry) fresh kept c.in-Some-assembly.is c.in-Some-geometry.is stream.0 cut in
     let left : Leaves w after.state.reference b c.decode_run-count.result.0 d =
     leaves w before.state.reference after.state.reference a b (Some geometry) fresh c.decode_run-count.result.0 d kept c.in-Some-assembly.is c.in-Some-geometry.is stream.0
     cut
@@ -42,12 +44,13 @@ returns-clause-run g c =
             limit = w.limit;
             rates = w.rates;
           })
-          b after c.decode_run-count.result.0 d c.outcome_of.result c.requires.sort left h.cursor
+          b before after c.decode_run-count.result.0 d c.outcome_of.result c.requires.sort left h.cursor
           (omega (arith, c.decode_run-count.ensures.inside, fresh_long c.deref.result.now w.source.cursor w.source.used))
-          c.outcome_of.ensures refl refl refl
+          c.outcome_of.ensures refl c.in-Some-reference.is
+          (c.decode_run-count.ensures.picture ∙ ap (λ (s : DecodedStep). with_picture s.state.reference before) same) refl refl
           (ap (λ t. Some t) (with_items_is c.in-Some.dest c.decode_run-count.new.dest (c.decode_run-count.auto.dest ∙ c.deref_mut.ensures.len))
           ∙ dest_is w c.in-Some.dest.items c.deref_mut.result.now c.decode_run-count.new.dest
           (decode (decoder_of before.state.reference a.kept) (Some geometry) a.limit fresh w.source.stamp)
-          (same_step w before.state.reference a (Some geometry) fresh kept c.in-Some-assembly.is c.in-Some-geometry.is stream.0 cut)
+          same
           (ap (λ o. option_map (λ v. v.items) o) c.in-Some.is) c.deref_mut.ensures.value c.decode_run-count.ensures.shown);
     }

@@ -34,5 +34,5 @@ returns-clause-run c =
           })
           b c.probe_run-count.result.0 d c.outcome_of.result c.requires.sort left h.cursor
           (omega (arith, c.probe_run-count.ensures.inside, fresh_long c.deref.result.now w.source.cursor w.source.used))
-          c.probe_run-count.ensures.of_headers c.outcome_of.ensures refl none refl refl;
+          c.probe_run-count.ensures.of_headers c.outcome_of.ensures refl h.reference h.reference refl refl;
     }
