@@ -25,10 +25,6 @@ cut_all start events first written left left_now c ended queued (Ok b) q s = tt
 cut_all start events first written left left_now c ended queued (Err stop) q s =
     cut_round start events first written left left_now c ended queued q s
 
-pub not_long : {A : Type 0} → (r : Result Bool Stop) → IfErr r (λ (stop : Stop). (stop ≢ ReadFault) × (stop ≢ TooLong)) → IsErrOf r TooLong → A
-not_long (Ok b) n e = absurd (cc)
-not_long (Err stop) n e = absurd (n.1 (cc))
-
 pub not_read : {A : Type 0} → (r : Result Bool Stop) → IfErr r (λ (stop : Stop). (stop ≢ ReadFault) × (stop ≢ TooLong)) → IsErrOf r ReadFault → A
 not_read (Ok b) n e = absurd (cc)
 not_read (Err stop) n e = absurd (n.0 (cc))

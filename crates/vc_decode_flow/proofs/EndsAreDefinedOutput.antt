@@ -1,7 +1,7 @@
 -- How a flow ends, in terms of what is defined for its input. What was queued is the whole input, so what was decoded is its
 -- output; and the input is damaged where a frame is, or where a byte lies in no frame.
 use Rattle.std.proofs.Common.{ℕ, ◌≡◌, ◌≤◌, ◌||◌, ◌+◌, ◌++◌, List, [], sym, ap, ◌∙◌, subst, refl, arith, append-nil, append_assoc, Option, Some, None, Bool, true, false}
-use Rattle.std.specs.Prelude.{Result, Ok, Err, IfOk, OnErr}
+use Rattle.std.specs.Prelude.{Result, Ok, Err, IfOk, OnOk, OnErr}
 use Rattle.std.specs.Io.KnownBytes.{Appends, Consumes, IsAtEnd}
 use mathlib.Core.List.{IsPrefix}
 use Rattle.std.specs.List.{list_any}
@@ -114,3 +114,7 @@ is_front start before events left left_now first written (Err stop) t c b =
 pub came_through : (r : Result Bool Stop) (X : Bool → Type 0) (damaged : Bool) → r ≡ Ok damaged → IfOk r X → X damaged
 came_through (Ok d) X damaged e t = let q : d ≡ damaged = cc in subst X q t
 came_through (Err stop) X damaged e t = absurd (cc)
+
+pub on_through : {X : Type 0} (r : Result Bool Stop) (damaged : Bool) → r ≡ Ok damaged → OnOk r X → X
+on_through (Ok d) damaged e t = t
+on_through (Err stop) damaged e t = absurd (cc)

@@ -1,10 +1,9 @@
 -- Queueing what was read. The bytes that were read are those that were queued, piece by piece, and at the end of the input
 -- none is added.
 use Rattle.std.proofs.Common.{ℕ, ◌≡◌, ◌++◌, List, [], length, take, sym, ap, ◌∙◌, subst, refl, append_assoc, append-nil, Option, Bool, true, false}
-use Rattle.std.specs.Prelude.{Result, Ok, Err, OnOk, IfErr, IsErrOf}
+use Rattle.std.specs.Prelude.{Result, Ok, Err, OnOk}
 use Rattle.vc_model.specs.Solo.{SoloEvent}
 use Rattle.vc_flow.specs.declared.ends.Stop.{Stop}
-use Rattle.vc_flow.specs.declared.ends.Stop.TheVariants.{TooLong, NoMemory}
 use Rattle.vc_coverage.specs.Covering.{CoverageState}
 use Rattle.vc_stream_laws.specs.Streams.{StreamSoFar, with_queued, IsStream}
 use Rattle.vc_decode_flow.specs.Steps.{IsRead, HasFed}
@@ -49,7 +48,3 @@ fed_piece start f left left_now c ended events piece taken (Ok done) e r w =
       read = subst (λ (l : List ℕ). IsRead left left_now c ended (f.queued ++ l)) (sym e) r;
     }
 fed_piece start f left left_now c ended events piece taken (Err stop) e r w = tt
-
-pub no_long : {A T : Type 0} → (r : Result T Stop) → IfErr r (λ (stop : Stop). stop ≡ NoMemory) → IsErrOf r TooLong → A
-no_long (Ok v) m e = absurd (cc)
-no_long (Err stop) m e = absurd (cc)

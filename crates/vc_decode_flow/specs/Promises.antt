@@ -1,15 +1,14 @@
 -- What each step of a flow promises, wherever the flow stands. In each, `old` and `new` are the events of the slot before and
 -- after the step.
-use Rattle.std.specs.Prelude.{ℕ, ◌≡◌, ◌||◌, Bool, true, false, Option, List, ◌++◌, Result, IfOk, OnOk, OnErr, IsErrOf}
+use Rattle.std.specs.Prelude.{ℕ, ◌≡◌, ◌||◌, Bool, true, false, Option, List, ◌++◌, Result, IfOk, OnOk, OnErr, IfErr, IsErrOf}
 use Rattle.vc_model.specs.Solo.{SoloEvent}
 use Rattle.vc_queue.specs.Holds.{HoldState}
 use Rattle.vc_coverage.specs.Covering.{CoverageState}
 use Rattle.vc_flow.specs.declared.ends.Stop.{Stop}
-use Rattle.vc_flow.specs.declared.ends.Stop.TheVariants.{EngineFault, TooLong}
-use Rattle.vc_flow.specs.Inputs.{IsLong}
+use Rattle.vc_flow.specs.declared.ends.Stop.TheVariants.{EngineFault}
 use Rattle.vc_flow.specs.Faults.{HasFailed}
 use Rattle.vc_stream_laws.specs.Streams.{StreamSoFar, not_known, some_stop, stop_by_change, IsStream, IsUnspoilt, IsDecoded, IsOpened}
-use Rattle.vc_decode_flow.specs.Steps.{with_end, with_change, without_captures, restarted, IsRead, HasFed, HasTaken, IsToWrite, HasWritten, StopsEarly, IsGoing, HasStopped, IsProbing, IsDecoding, IsCutShort}
+use Rattle.vc_decode_flow.specs.Steps.{with_end, with_change, without_captures, restarted, IsRead, IsCounted, StopsAtCount, HasFed, HasTaken, IsToWrite, HasWritten, StopsEarly, IsGoing, HasStopped, IsProbing, IsDecoding, IsCutShort}
 use Rattle.vc_decode_flow.specs.Endings.{IsDrained, IsAllWritten, IsThrough, IsWritten}
 use Rattle.vc_decode_flow.specs.declared.taking.Taken.{Taken}
 use Rattle.vc_decode_flow.specs.declared.rounds.Round.{Round}
@@ -92,10 +91,15 @@ ReadsOn result piece left_then left_now c d ended ended_now =
     (left : Option (List ℕ)) (bytes : List ℕ) → IsRead left left_then c ended bytes →
     OnOk result (IsRead left left_now d ended_now (bytes ++ piece))
 
--- where the input is said to be too long, 2^40 bytes were read
-abbrev pub ReadingTellsLong : {T : Type 0} (result : Result T Stop) (left_then left_now : Option (List ℕ)) (c : CoverageState) (ended : Bool) → Type 0
-ReadingTellsLong result left_then left_now c ended =
-    (left : Option (List ℕ)) (bytes : List ℕ) → IsRead left left_then c ended bytes → IsErrOf result TooLong → IsLong left left_now
+-- what is read is counted
+abbrev pub Counts : {T : Type 0} (result : Result T Stop) (left_then left_now : Option (List ℕ)) (c d : CoverageState) → Type 0
+Counts result left_then left_now c d =
+    (left : Option (List ℕ)) → IsCounted left left_then c → OnOk result (IsCounted left left_now d)
+
+-- the input is said to be too long exactly where 2^40 bytes were read
+abbrev pub TellsLong : {T : Type 0} (result : Result T Stop) (left_then left_now : Option (List ℕ)) (c : CoverageState) → Type 0
+TellsLong result left_then left_now c =
+    (left : Option (List ℕ)) → IsCounted left left_then c → IfErr result (λ stop. StopsAtCount left left_now stop)
 
 -- what was read is queued
 abbrev pub Feeds : {T S P : Type 0} (result : Result T Stop) (left_of : S → Option (List ℕ)) (source_old source_new : S)
@@ -104,12 +108,6 @@ Feeds result left_of source_old source_new c d ended ended_now events port_old p
     (start : List SoloEvent) (f : StreamSoFar) (left : Option (List ℕ)) → f.ends ≡ false → IsStream start f (events port_old) →
     IsRead left (left_of source_old) c ended f.queued →
     OnOk result (HasFed start f left (left_of source_new) d ended_now (events port_new))
-
-abbrev pub FeedingTellsLong : {T S : Type 0} (result : Result T Stop) (left_of : S → Option (List ℕ)) (source_old source_new : S)
-    (c : CoverageState) (ended : Bool) (old : List SoloEvent) → Type 0
-FeedingTellsLong result left_of source_old source_new c ended old =
-    (start : List SoloEvent) (f : StreamSoFar) (left : Option (List ℕ)) → f.ends ≡ false → IsStream start f old →
-    IsRead left (left_of source_old) c ended f.queued → IsErrOf result TooLong → IsLong left (left_of source_new)
 
 -- Rounds
 
@@ -208,12 +206,6 @@ ProbesOn result left_of source_old source_new c d ended ended_now events port_ol
     (start : List SoloEvent) (left : Option (List ℕ)) → IsProbing start left (left_of source_old) c ended (events port_old) →
     OnOk result (IsProbing start left (left_of source_new) d ended_now (events port_new))
 
-abbrev pub ProbingTellsLong : {T S : Type 0} (result : Result T Stop) (left_of : S → Option (List ℕ)) (source_old source_new : S)
-    (c : CoverageState) (ended : Bool) (old : List SoloEvent) → Type 0
-ProbingTellsLong result left_of source_old source_new c ended old =
-    (start : List SoloEvent) (left : Option (List ℕ)) → IsProbing start left (left_of source_old) c ended old →
-    IsErrOf result TooLong → IsLong left (left_of source_new)
-
 abbrev pub ProbingTellsFault : {T : Type 0} (result : Result T Stop) (left_then : Option (List ℕ)) (c : CoverageState) (ended : Bool)
     (old new : List SoloEvent) → Type 0
 ProbingTellsFault result left_then c ended old new =
@@ -237,12 +229,6 @@ DecodingIsCut result left_then written sink_old sink_new c ended events port_old
     (start : List SoloEvent) (first left : Option (List ℕ)) →
     IsDecoding start false first (written sink_old) left left_then c ended (events port_old) →
     OnErr result (IsCutShort start first (written sink_new) left (events port_new))
-
-abbrev pub DecodingTellsLong : {S : Type 0} (result : Result Bool Stop) (left_of : S → Option (List ℕ)) (source_old source_new : S)
-    (written : Option (List ℕ)) (c : CoverageState) (ended : Bool) (old : List SoloEvent) → Type 0
-DecodingTellsLong result left_of source_old source_new written c ended old =
-    (start : List SoloEvent) (first left : Option (List ℕ)) →
-    IsDecoding start false first written left (left_of source_old) c ended old → IsErrOf result TooLong → IsLong left (left_of source_new)
 
 abbrev pub DecodingTellsFault : (result : Result Bool Stop) (left_then written : Option (List ℕ)) (c : CoverageState) (ended : Bool)
     (old new : List SoloEvent) → Type 0

@@ -1,5 +1,5 @@
 -- Where a flow is between its steps, and where it is when it stops early.
-use Rattle.std.specs.Prelude.{ℕ, ◌≡◌, ◌||◌, if◌then◌else◌, Bool, true, false, Option, Some, None, List, [], ◌++◌}
+use Rattle.std.specs.Prelude.{ℕ, ◌≡◌, ◌≢◌, ◌<◌, ◌||◌, if◌then◌else◌, length, Bool, true, false, Option, Some, None, List, [], ◌++◌}
 use Rattle.std.specs.Io.KnownBytes.{Appends, Consumes, IsAtEnd}
 use mathlib.Core.List.{IsPrefix}
 use Rattle.vc_defs.specs.Outputs.{decode_output}
@@ -7,8 +7,10 @@ use Rattle.vc_model.specs.Solo.{SoloEvent}
 use Rattle.vc_queue.specs.Holds.{HoldState, held_payload}
 use Rattle.vc_port.specs.Payloads.{bytes_out}
 use Rattle.vc_base.specs.declared.Side.TheVariants.{Cap}
-use Rattle.vc_coverage.specs.Covering.{CoverageState, HasRead}
-use Rattle.vc_flow.specs.Inputs.{BeginsWith}
+use Rattle.vc_coverage.specs.Covering.{CoverageState, HasRead, bytes_read}
+use Rattle.vc_flow.specs.Inputs.{most_input, BeginsWith, IsBelow, IsJustLong}
+use Rattle.vc_flow.specs.declared.ends.Stop.{Stop}
+use Rattle.vc_flow.specs.declared.ends.Stop.TheVariants.{TooLong}
 use Rattle.vc_flow.specs.Calls.{HandedFirst}
 use Rattle.vc_flow.specs.Buffers.{HasBytes}
 use Rattle.vc_stream_laws.specs.Streams.{StreamSoFar, stream_at_start, with_queued, KnownStop, not_known, some_stop, stop_by_change, IsStream, IsUnspoilt}
@@ -21,6 +23,19 @@ pub record IsRead (left left_now : Option (List ℕ)) (coverage : CoverageState)
   pub read : Consumes left left_now bytes
   pub covers : HasRead coverage bytes
   pub end : ended ≡ true → IsAtEnd left_now
+
+-- these bytes of the input were read and counted, fewer than an input may have
+pub record IsCounted (left left_now : Option (List ℕ)) (coverage : CoverageState) : Type 0 where
+  pub bytes : List ℕ
+  pub read : Consumes left left_now bytes
+  pub count : bytes_read coverage ≡ length bytes
+  pub below : length bytes < most_input
+
+-- Where a step stops, so many bytes were read that the input is too long, and less than a piece more; or fewer, where it
+-- stops for another reason.
+abbrev pub StopsAtCount : Option (List ℕ) → Option (List ℕ) → Stop → Type 0
+StopsAtCount left left_now stop =
+    (stop ≡ TooLong → IsJustLong 65536 left left_now) × (stop ≢ TooLong → IsBelow left left_now)
 
 -- more bytes of the input were read and queued
 pub record HasFed (start : List SoloEvent) (f : StreamSoFar) (left left_now : Option (List ℕ)) (coverage : CoverageState) (ended : Bool) (events : List SoloEvent) : Type 0 where

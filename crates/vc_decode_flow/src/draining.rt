@@ -1,6 +1,6 @@
 //! Drains a flow at the end of its input.
 
-ghost use Rattle.std.specs.Prelude.{◌≡◌, ◌≢◌, ◌≤◌, true, false, IfErr, IsErrOf};
+ghost use Rattle.std.specs.Prelude.{◌≡◌, ◌≢◌, ◌≤◌, true, false, OnOk, IfErr, IsErrOf};
 ghost use Rattle.vc_base.specs.Counts.{Rose};
 ghost use Rattle.vc_port.specs.Payloads.{bytes_out};
 ghost use Rattle.vc_decode_flow.specs.Promises.{DrainBegins, TellsDrained, TellsChange, StopIsTheEnd, StopIsPassed, Drains, DrainIsCut, DrainTellsFault};
@@ -80,6 +80,7 @@ fn finish_drain<R: Wait, P: PayloadPort, K: Sink>(
     ensures cut { DrainIsCut true before result (K.written sink.old) (K.written sink.new) (P.events port.old) (P.events port.new) }
     ensures engine { DrainTellsFault true before result (K.written sink.old) (P.events port.old) (P.events port.new) }
     ensures later { K.faults sink.old ≤ K.faults sink.new }
+    ensures quiet { OnOk result (K.faults sink.new ≡ K.faults sink.old) }
     ensures write { IsErrOf result Stop.WriteFault → Rose (K.faults sink.old) (K.faults sink.new) }
     ensures stops { IfErr result (λ stop. (stop ≢ Stop.ReadFault) × (stop ≢ Stop.TooLong)) }
 {
@@ -116,6 +117,7 @@ pub(crate) fn drain<R: Wait, P: PayloadPort, K: Sink>(
     ensures cut { DrainIsCut false before result (K.written sink.old) (K.written sink.new) (P.events port.old) (P.events port.new) }
     ensures engine { DrainTellsFault false before result (K.written sink.old) (P.events port.old) (P.events port.new) }
     ensures later { K.faults sink.old ≤ K.faults sink.new }
+    ensures quiet { OnOk result (K.faults sink.new ≡ K.faults sink.old) }
     ensures write { IsErrOf result Stop.WriteFault → Rose (K.faults sink.old) (K.faults sink.new) }
     ensures stops { IfErr result (λ stop. (stop ≢ Stop.ReadFault) × (stop ≢ Stop.TooLong)) }
 {

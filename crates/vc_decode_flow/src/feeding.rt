@@ -1,10 +1,10 @@
 //! Feeds the input to a flow.
 
-ghost use Rattle.std.specs.Prelude.{◌≡◌, ◌≢◌, ◌<◌, ◌≤◌, ◌^◌, length, IfErr, IsErrOf};
+ghost use Rattle.std.specs.Prelude.{◌≡◌, ◌≢◌, ◌<◌, ◌≤◌, ◌^◌, length, OnOk, IfErr, IsErrOf};
 ghost use Rattle.vc_base.specs.Counts.{Rose};
 ghost use Rattle.vc_port.specs.Payloads.{bytes_out};
 ghost use Rattle.vc_stream_laws.specs.Streams.{with_queued};
-ghost use Rattle.vc_decode_flow.specs.Promises.{UnendedMoves, Feeds, FeedingTellsLong};
+ghost use Rattle.vc_decode_flow.specs.Promises.{UnendedMoves, Feeds, Counts, TellsLong};
 
 use crate::opening::OUT_BUFFERS;
 use crate::reading::Reading;
@@ -48,8 +48,10 @@ fn feed_one<P: PayloadPort, S: Source>(
     ensures follows { P.follows port.old port.new }
     ensures fed { Feeds result S.left source.old source.new reading.old.coverage reading.new.coverage reading.old.ended reading.new.ended P.events port.old port.new }
     ensures bytes { bytes_out (P.events port.new) ≡ bytes_out (P.events port.old) }
-    ensures long { FeedingTellsLong result S.left source.old source.new reading.old.coverage reading.old.ended (P.events port.old) }
+    ensures counts { Counts result (S.left source.old) (S.left source.new) reading.old.coverage reading.new.coverage }
+    ensures long { TellsLong result (S.left source.old) (S.left source.new) reading.old.coverage }
     ensures later { S.faults source.old ≤ S.faults source.new }
+    ensures quiet { OnOk result (S.faults source.new ≡ S.faults source.old) }
     ensures fault { IsErrOf result Stop.ReadFault → Rose (S.faults source.old) (S.faults source.new) }
     ensures stops { IfErr result (λ stop. (stop ≢ Stop.WriteFault) × (stop ≢ Stop.EngineFault)) }
 {
@@ -74,8 +76,10 @@ pub(crate) fn feed<P: PayloadPort, S: Source>(
     ensures follows { P.follows port.old port.new }
     ensures fed { Feeds result S.left source.old source.new reading.old.coverage reading.new.coverage reading.old.ended reading.new.ended P.events port.old port.new }
     ensures bytes { bytes_out (P.events port.new) ≡ bytes_out (P.events port.old) }
-    ensures long { FeedingTellsLong result S.left source.old source.new reading.old.coverage reading.old.ended (P.events port.old) }
+    ensures counts { Counts result (S.left source.old) (S.left source.new) reading.old.coverage reading.new.coverage }
+    ensures long { TellsLong result (S.left source.old) (S.left source.new) reading.old.coverage }
     ensures later { S.faults source.old ≤ S.faults source.new }
+    ensures quiet { OnOk result (S.faults source.new ≡ S.faults source.old) }
     ensures fault { IsErrOf result Stop.ReadFault → Rose (S.faults source.old) (S.faults source.new) }
     ensures stops { IfErr result (λ stop. (stop ≢ Stop.WriteFault) × (stop ≢ Stop.EngineFault)) }
 {

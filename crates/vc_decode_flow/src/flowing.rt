@@ -4,10 +4,10 @@ ghost use Rattle.std.specs.Prelude.{◌≡◌, ◌≢◌, ◌<◌, ◌≤◌, tr
 ghost use Rattle.vc_base.specs.Counts.{Rose};
 ghost use Rattle.vc_port.specs.Payloads.{slot_after, faulty_finishes};
 ghost use Rattle.vc_flow.specs.Faults.{HasFailed, ShowsFault};
-ghost use Rattle.vc_flow.specs.Inputs.{IsLong};
+ghost use Rattle.vc_flow.specs.Inputs.{IsLong, IsBelow, IsJustLong};
 ghost use Rattle.vc_decode_flow.specs.Steps.{IsCutShort};
 ghost use Rattle.vc_decode_flow.specs.Endings.{IsFrontWritten};
-ghost use Rattle.vc_decode_flow.specs.Promises.{ProbingTellsLong, ProbingTellsFault, Decodes, DecodingIsCut, DecodingTellsLong, DecodingTellsFault, DecodesAll, AllIsCut, RunsThrough, WritesAll};
+ghost use Rattle.vc_decode_flow.specs.Promises.{Counts, TellsLong, ProbingTellsFault, Decodes, DecodingIsCut, DecodingTellsFault, DecodesAll, AllIsCut, RunsThrough, WritesAll};
 
 use crate::draining::drain;
 use crate::feeding::feed;
@@ -36,10 +36,13 @@ fn decode_input<R: Wait, P: PayloadPort, S: Source, K: Sink>(
     ensures decodes { Decodes result S.left source.old source.new K.written sink.old sink.new reading.old.coverage reading.new.coverage reading.old.ended reading.new.ended P.events port.old port.new }
     ensures ended { OnOk result (reading.new.ended ≡ true) }
     ensures cut { DecodingIsCut result (S.left source.old) K.written sink.old sink.new reading.old.coverage reading.old.ended P.events port.old port.new }
-    ensures long { DecodingTellsLong result S.left source.old source.new (K.written sink.old) reading.old.coverage reading.old.ended (P.events port.old) }
+    ensures counts { Counts result (S.left source.old) (S.left source.new) reading.old.coverage reading.new.coverage }
+    ensures long { TellsLong result (S.left source.old) (S.left source.new) reading.old.coverage }
     ensures engine { DecodingTellsFault result (S.left source.old) (K.written sink.old) reading.old.coverage reading.old.ended (P.events port.old) (P.events port.new) }
     ensures source_later { S.faults source.old ≤ S.faults source.new }
     ensures sink_later { K.faults sink.old ≤ K.faults sink.new }
+    ensures source_quiet { OnOk result (S.faults source.new ≡ S.faults source.old) }
+    ensures sink_quiet { OnOk result (K.faults sink.new ≡ K.faults sink.old) }
     ensures read { IsErrOf result Stop.ReadFault → Rose (S.faults source.old) (S.faults source.new) }
     ensures write { IsErrOf result Stop.WriteFault → Rose (K.faults sink.old) (K.faults sink.new) }
 {
@@ -81,10 +84,13 @@ fn decode_all<R: Wait, P: PayloadPort, S: Source, K: Sink>(
     ensures follows { P.follows port.old port.new }
     ensures all { DecodesAll result S.left source.old source.new K.written sink.old sink.new reading.old.coverage reading.new.coverage reading.old.ended P.events port.old port.new }
     ensures cut { AllIsCut result (S.left source.old) K.written sink.old sink.new reading.old.coverage reading.old.ended P.events port.old port.new }
-    ensures long { ProbingTellsLong result S.left source.old source.new reading.old.coverage reading.old.ended (P.events port.old) }
+    ensures counts { Counts result (S.left source.old) (S.left source.new) reading.old.coverage reading.new.coverage }
+    ensures long { TellsLong result (S.left source.old) (S.left source.new) reading.old.coverage }
     ensures engine { ProbingTellsFault result (S.left source.old) reading.old.coverage reading.old.ended (P.events port.old) (P.events port.new) }
     ensures source_later { S.faults source.old ≤ S.faults source.new }
     ensures sink_later { K.faults sink.old ≤ K.faults sink.new }
+    ensures source_quiet { OnOk result (S.faults source.new ≡ S.faults source.old) }
+    ensures sink_quiet { OnOk result (K.faults sink.new ≡ K.faults sink.old) }
     ensures read { IsErrOf result Stop.ReadFault → Rose (S.faults source.old) (S.faults source.new) }
     ensures write { IsErrOf result Stop.WriteFault → Rose (K.faults sink.old) (K.faults sink.new) }
 {
@@ -108,10 +114,13 @@ fn decode_open<R: Wait, P: PayloadPort, S: Source, K: Sink>(
     ensures follows { P.follows port.old port.new }
     ensures all { DecodesAll result S.left source.old source.new K.written sink.old sink.new reading.old.coverage reading.new.coverage reading.old.ended P.events port.old port.new }
     ensures cut { AllIsCut result (S.left source.old) K.written sink.old sink.new reading.old.coverage reading.old.ended P.events port.old port.new }
-    ensures long { ProbingTellsLong result S.left source.old source.new reading.old.coverage reading.old.ended (P.events port.old) }
+    ensures counts { Counts result (S.left source.old) (S.left source.new) reading.old.coverage reading.new.coverage }
+    ensures long { TellsLong result (S.left source.old) (S.left source.new) reading.old.coverage }
     ensures engine { ProbingTellsFault result (S.left source.old) reading.old.coverage reading.old.ended (P.events port.old) (P.events port.new) }
     ensures source_later { S.faults source.old ≤ S.faults source.new }
     ensures sink_later { K.faults sink.old ≤ K.faults sink.new }
+    ensures source_quiet { OnOk result (S.faults source.new ≡ S.faults source.old) }
+    ensures sink_quiet { OnOk result (K.faults sink.new ≡ K.faults sink.old) }
     ensures read { IsErrOf result Stop.ReadFault → Rose (S.faults source.old) (S.faults source.new) }
     ensures write { IsErrOf result Stop.WriteFault → Rose (K.faults sink.old) (K.faults sink.new) }
 {
@@ -140,10 +149,13 @@ fn run_flow<R: Wait, P: PayloadPort, S: Source, K: Sink>(
     ensures follows { P.follows port.old port.new }
     ensures through { RunsThrough result S.left source.old source.new K.written sink.old sink.new P.events port.old port.new }
     ensures cut { OnErr result (IsCutShort (P.events port.old) (K.written sink.old) (K.written sink.new) (S.left source.old) (P.events port.new)) }
-    ensures long { IsErrOf result Stop.TooLong → IsLong (S.left source.old) (S.left source.new) }
+    ensures long { IsErrOf result Stop.TooLong → IsJustLong 65536 (S.left source.old) (S.left source.new) }
+    ensures below { result ≢ Err Stop.TooLong → IsBelow (S.left source.old) (S.left source.new) }
     ensures engine { IsErrOf result Stop.EngineFault → HasFailed (P.events port.old) (P.events port.new) }
     ensures source_later { S.faults source.old ≤ S.faults source.new }
     ensures sink_later { K.faults sink.old ≤ K.faults sink.new }
+    ensures source_quiet { OnOk result (S.faults source.new ≡ S.faults source.old) }
+    ensures sink_quiet { OnOk result (K.faults sink.new ≡ K.faults sink.old) }
     ensures read { IsErrOf result Stop.ReadFault → Rose (S.faults source.old) (S.faults source.new) }
     ensures write { IsErrOf result Stop.WriteFault → Rose (K.faults sink.old) (K.faults sink.new) }
 {
@@ -166,6 +178,7 @@ fn end_of(ended: Result<bool, Stop>) -> FlowEnd
     ensures write { result ≡ FlowEnd.WriteFault → ended ≡ Err Stop.WriteFault }
     ensures engine { result ≡ FlowEnd.EngineFault → ended ≡ Err Stop.EngineFault }
     ensures long { result ≡ FlowEnd.TooLong → ended ≡ Err Stop.TooLong }
+    ensures too_long { ended ≡ Err Stop.TooLong → result ≡ FlowEnd.TooLong }
     ensures no_raw { result ≢ FlowEnd.ShortRaw }
 {
     match ended {
@@ -203,11 +216,15 @@ pub fn decode_on<R: Wait, P: PayloadPort, S: Source, K: Sink>(
     ensures front { IsFrontWritten (S.left source.old) (K.written sink.old) (K.written sink.new) (P.events port.old) (P.events port.new) }
     ensures source_later { S.faults source.old ≤ S.faults source.new }
     ensures sink_later { K.faults sink.old ≤ K.faults sink.new }
+    ensures whole_quiet { result ≡ FlowEnd.Whole → (S.faults source.new ≡ S.faults source.old) × (K.faults sink.new ≡ K.faults sink.old) }
+    ensures damaged_quiet { result ≡ FlowEnd.Damaged → (S.faults source.new ≡ S.faults source.old) × (K.faults sink.new ≡ K.faults sink.old) }
     ensures read { result ≡ FlowEnd.ReadFault → Rose (S.faults source.old) (S.faults source.new) }
     ensures write { result ≡ FlowEnd.WriteFault → Rose (K.faults sink.old) (K.faults sink.new) }
     ensures engine { result ≡ FlowEnd.EngineFault → faulty_finishes (P.events port.old) < faulty_finishes (P.events port.new) }
     ensures shown { result ≡ FlowEnd.EngineFault → ShowsFault (P.events port.old) (P.events port.new) }
     ensures long { result ≡ FlowEnd.TooLong → IsLong (S.left source.old) (S.left source.new) }
+    ensures most { result ≡ FlowEnd.TooLong → IsJustLong 65536 (S.left source.old) (S.left source.new) }
+    ensures below { result ≢ FlowEnd.TooLong → IsBelow (S.left source.old) (S.left source.new) }
     ensures no_raw { result ≢ FlowEnd.ShortRaw }
 {
     let ended = run_flow(rt, alloc, port, source, sink);

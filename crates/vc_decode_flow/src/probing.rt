@@ -1,9 +1,9 @@
 //! Feeds a flow until the geometry of its pictures is known.
 
-ghost use Rattle.std.specs.Prelude.{◌≡◌, ◌≢◌, ◌≤◌, true, false, IfOk, IfErr, IsErrOf};
+ghost use Rattle.std.specs.Prelude.{◌≡◌, ◌≢◌, ◌≤◌, true, false, IfOk, OnOk, IfErr, IsErrOf};
 ghost use Rattle.vc_base.specs.Counts.{Rose};
 ghost use Rattle.vc_port.specs.Payloads.{bytes_out};
-ghost use Rattle.vc_decode_flow.specs.Promises.{ProbesOn, ProbingTellsLong, ProbingTellsFault};
+ghost use Rattle.vc_decode_flow.specs.Promises.{ProbesOn, Counts, TellsLong, ProbingTellsFault};
 
 use crate::feeding::{all_are_free, feed};
 use crate::reading::Reading;
@@ -28,9 +28,11 @@ pub(crate) fn find_geometry<R: Wait, P: PayloadPort, S: Source>(
     ensures probes { ProbesOn result S.left source.old source.new reading.old.coverage reading.new.coverage reading.old.ended reading.new.ended P.events port.old port.new }
     ensures ended { IfOk result (λ found. found ≡ false → reading.new.ended ≡ true) }
     ensures bytes { bytes_out (P.events port.new) ≡ bytes_out (P.events port.old) }
-    ensures long { ProbingTellsLong result S.left source.old source.new reading.old.coverage reading.old.ended (P.events port.old) }
+    ensures counts { Counts result (S.left source.old) (S.left source.new) reading.old.coverage reading.new.coverage }
+    ensures long { TellsLong result (S.left source.old) (S.left source.new) reading.old.coverage }
     ensures engine { ProbingTellsFault result (S.left source.old) reading.old.coverage reading.old.ended (P.events port.old) (P.events port.new) }
     ensures later { S.faults source.old ≤ S.faults source.new }
+    ensures quiet { OnOk result (S.faults source.new ≡ S.faults source.old) }
     ensures fault { IsErrOf result Stop.ReadFault → Rose (S.faults source.old) (S.faults source.new) }
     ensures stops { IfErr result (λ stop. stop ≢ Stop.WriteFault) }
 {

@@ -1,12 +1,12 @@
 //! Reads the input of a flow by pieces.
 
-ghost use Rattle.std.specs.Prelude.{◌≡◌, ◌≢◌, ◌≤◌, ℕ, true, false, List, [], take, vec_len, length, OnOk, IfOk, IfErr, IsErrOf};
+ghost use Rattle.std.specs.Prelude.{◌≡◌, ◌≢◌, ◌≤◌, ◌<◌, ◌^◌, ℕ, true, false, List, [], take, vec_len, length, OnOk, IfOk, IfErr, IsErrOf};
 ghost use Rattle.vc_base.specs.Counts.{Rose};
 ghost use Rattle.vc_base.specs.Limits.{most_bytes};
 ghost use Rattle.vc_defs.specs.Places.{leaves_a_byte};
-ghost use Rattle.vc_coverage.specs.Covering.{HasRead};
+ghost use Rattle.vc_coverage.specs.Covering.{HasRead, bytes_read};
 ghost use Rattle.vc_coverage.specs.KeyHeaders.{has_key_header};
-ghost use Rattle.vc_decode_flow.specs.Promises.{ReadsOn, ReadingTellsLong};
+ghost use Rattle.vc_decode_flow.specs.Promises.{ReadsOn, Counts, TellsLong};
 
 use std::alloc::Global;
 use vc_coverage::Coverage;
@@ -25,12 +25,14 @@ pub(crate) struct Reading {
     pub(crate) ended: bool,
     ghost room: { vec_len piece ≡ 65536 },
     ghost fits: { count ≤ 65536 },
+    ghost below: { bytes_read coverage < 2 ^ 40 },
 }
 
 impl Reading {
     /// Before the first read.
     pub(crate) fn make(alloc: Global) -> Result<Reading, Stop>
         ensures nothing { IfOk result (λ reading. HasRead reading.coverage []) }
+        ensures unread { IfOk result (λ reading. bytes_read reading.coverage ≡ 0) }
         ensures going { IfOk result (λ reading. reading.ended ≡ false) }
         ensures memory { IfErr result (λ stop. stop ≡ Stop.NoMemory) }
     {
@@ -56,21 +58,23 @@ impl Reading {
         &self.piece[..self.count]
     }
 
-    /// Reads the next piece, which is empty at the end of the input.
+    /// Reads the next piece, which is empty at the end of the input. An input of which 2^40 bytes were read is too long.
     pub(crate) fn next<S: Source>(&mut self, source: &mut S) -> Result<(), Stop>
         ensures read { ReadsOn result (take self.new.count self.new.piece.items) (S.left source.old) (S.left source.new) self.old.coverage self.new.coverage self.old.ended self.new.ended }
         ensures none { OnOk result (self.new.ended ≡ true → self.new.count ≡ 0) }
-        ensures long { ReadingTellsLong result (S.left source.old) (S.left source.new) self.old.coverage self.old.ended }
+        ensures counts { Counts result (S.left source.old) (S.left source.new) self.old.coverage self.new.coverage }
+        ensures long { TellsLong result (S.left source.old) (S.left source.new) self.old.coverage }
         ensures later { S.faults source.old ≤ S.faults source.new }
+        ensures quiet { OnOk result (S.faults source.new ≡ S.faults source.old) }
         ensures fault { IsErrOf result Stop.ReadFault → Rose (S.faults source.old) (S.faults source.new) }
         ensures stops { IfErr result (λ stop. (stop ≢ Stop.WriteFault) × (stop ≢ Stop.EngineFault)) }
     {
-        if self.coverage.count() >= MOST_INPUT {
-            return Err(Stop::TooLong);
-        }
         let Ok(count) = source.read(&mut self.piece) else {
             return Err(Stop::ReadFault);
         };
+        if self.coverage.count() + count as u64 >= MOST_INPUT {
+            return Err(Stop::TooLong);
+        }
         self.coverage.read(&self.piece[..count]);
         self.count = count;
         self.ended = count == 0;

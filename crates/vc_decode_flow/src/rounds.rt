@@ -1,6 +1,6 @@
 //! The rounds of a flow whose CAPTURE streams.
 
-ghost use Rattle.std.specs.Prelude.{◌≡◌, ◌≢◌, ◌≤◌, ◌||◌, IfOk, IfErr, IsErrOf};
+ghost use Rattle.std.specs.Prelude.{◌≡◌, ◌≢◌, ◌≤◌, ◌||◌, IfOk, OnOk, IfErr, IsErrOf};
 ghost use Rattle.vc_base.specs.declared.Side.TheVariants.{Cap};
 ghost use Rattle.vc_base.specs.Counts.{Rose};
 ghost use Rattle.vc_queue.specs.Holds.{held_payload};
@@ -39,6 +39,7 @@ fn give<P: PayloadPort, K: Sink>(port: &mut P, sink: &mut K, taken: Taken) -> Re
     ensures at { Gives result taken (held_payload (P.hold port.old) Cap taken.index) K.written sink.old sink.new P.events port.old port.new }
     ensures cut { GivesPrefix result taken (held_payload (P.hold port.old) Cap taken.index) K.written sink.old sink.new P.events port.old port.new }
     ensures later { K.faults sink.old ≤ K.faults sink.new }
+    ensures quiet { OnOk result (K.faults sink.new ≡ K.faults sink.old) }
     ensures write { IsErrOf result Stop.WriteFault → Rose (K.faults sink.old) (K.faults sink.new) }
     ensures stops { IfErr result (λ stop. (stop ≢ Stop.ReadFault) × (stop ≢ Stop.TooLong) × (stop ≢ Stop.EngineFault)) }
 {
@@ -69,6 +70,7 @@ pub(crate) fn go_round<R: Wait, P: PayloadPort, K: Sink>(
     ensures cut { RoundIsCut result (K.written sink.old) (K.written sink.new) (P.events port.old) (P.events port.new) }
     ensures engine { RoundTellsFault result (K.written sink.old) (P.events port.old) (P.events port.new) }
     ensures later { K.faults sink.old ≤ K.faults sink.new }
+    ensures quiet { OnOk result (K.faults sink.new ≡ K.faults sink.old) }
     ensures write { IsErrOf result Stop.WriteFault → Rose (K.faults sink.old) (K.faults sink.new) }
     ensures stops { IfErr result (λ stop. (stop ≢ Stop.ReadFault) × (stop ≢ Stop.TooLong)) }
 {

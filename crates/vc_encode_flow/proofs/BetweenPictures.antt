@@ -122,6 +122,7 @@ goes_through start f size number count whole first written later left left_now l
       wrote = subst (Appends first later) all.frames h.at.wrote;
       handed = h.at.flow.handed ∙ ap (λ (l : List ℕ). bytes_out start ++ l) all.frames;
       finishes = all.finishes;
+      hidden = h.at.flow.hidden;
     }
   where
     none_left : (xs : List ℕ) → length xs ≡ 0 → xs ≡ []

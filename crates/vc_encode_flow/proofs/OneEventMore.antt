@@ -10,7 +10,7 @@ use Rattle.vc_base.specs.declared.Reply.TheVariants.{Blocked}
 use Rattle.vc_model.specs.Coder.{the_coder}
 use Rattle.vc_model.specs.Context.{Context, Slot}
 use Rattle.vc_model.specs.Answer.{answer}
-use Rattle.vc_model.specs.Handed.{handed_by, handed_by_call, handed_out, finishes_by_fault}
+use Rattle.vc_model.specs.Handed.{handed_by, handed_by_call, handed_out, finishes_by_fault, returns_error, shows_fault}
 use Rattle.vc_model.specs.Solo.{SoloEvent, Called, Claims, Finishes, SoloReply, Answered, SoloEntry, solo_step, solo_run, solo_slot}
 use Rattle.vc_model.specs.Sound.{IsOrdered, IsOrderedSlot}
 use Rattle.vc_model.proofs.EventsKeepSound.{always_ordered}
@@ -22,6 +22,7 @@ use Rattle.vc_context.specs.Payloads.{handed_over}
 use Rattle.vc_port.specs.Payloads.{slot_after, told_at, bytes_out, good_finishes, faulty_finishes, is_of_job, AreOfJobs, with_call, IsCallOn}
 use Rattle.vc_port.proofs.CallsHandOut.{slot-append}
 use Rattle.vc_flow.proofs.FaultsShow.{goes_on_both}
+use Rattle.vc_flow.proofs.FaultsAreHidden.{job_hides, hides_both, event_hides}
 use Rattle.vc_encode_flow.specs.Frames.{joined}
 use Rattle.vc_encode_flow.specs.Flows.{FlowSoFar, IsEncoding, IsUnderWay, IsFlow}
 use Rattle.vc_encode_flow.proofs.JobsKeepAFlow.{count_of, job_goes_on, under_way_later}
@@ -80,6 +81,7 @@ job_flow start f events e j w =
       handed = bytes_more events e ∙ (ap (λ (l : List ℕ). bytes_out events ++ l) (job_hands_none e _ j) ∙ (append-nil (bytes_out events) ∙ w.handed));
       later = omega (arith, w.later, bad);
       goes_on = goes_on_both start events (events ++ e ∷ []) w.goes_on (e ∷ [], refl);
+      hidden = hides_both start events (events ++ e ∷ []) w.hidden (event_hides events e (job_hides e (solo_step the_coder (slot_after events) e).told j));
     }
 
 pub jobs_flow : (start : List SoloEvent) (f : FlowSoFar) (events js : List SoloEvent) → AreOfJobs js → IsFlow start f events → IsFlow start f (events ++ js)
@@ -123,9 +125,9 @@ asked start f old before request told new after n c w =
 pub call_flow : (start : List SoloEvent) (f g : FlowSoFar) (request : Call) (bytes : List ℕ) (told : Reply) (handed : List ℕ) (new : List SoloEvent)
     (y : Context) → (a : IsAsked start f request bytes told handed new) → (answer (Some a.flow.context) request bytes a.found).slot ≡ Some y →
     IsEncoding g y → IsUnderWay g y (good_finishes start) (good_finishes a.before) (faulty_finishes start) (faulty_finishes a.before) →
-    joined g.taken ≡ joined f.taken ++ handed_by_call request told handed → IsFlow start g new
+    joined g.taken ≡ joined f.taken ++ handed_by_call request told handed → returns_error request told ≡ false → IsFlow start g new
 unfolding solo_step
-call_flow start f g request bytes told handed new y a next w u j =
+call_flow start f g request bytes told handed new y a next w u j n =
     let e : SoloEvent = Called request bytes a.found in
     let good : good_finishes (a.before ++ e ∷ []) ≡ good_finishes a.before + 0 = finishes_more false a.before e in
     let bad : faulty_finishes (a.before ++ e ∷ []) ≡ faulty_finishes a.before + 0 = finishes_more true a.before e in
@@ -133,6 +135,9 @@ call_flow start f g request bytes told handed new y a next w u j =
     (λ (s : Slot). handed_by_call request (answer s request bytes a.found).reply (answer s request bytes a.found).bytes) a.flow.stands
     ∙ (ap (λ (r : Reply). handed_by_call request r (answer (Some a.flow.context) request bytes a.found).bytes) a.reply
     ∙ ap (λ (l : List ℕ). handed_by_call request told l) a.gives) in
+    let hides : shows_fault e (solo_step the_coder (slot_after a.before) e).told ≡ false = ap
+    (λ (s : Slot). returns_error request (answer s request bytes a.found).reply) a.flow.stands
+    ∙ (ap (λ (r : Reply). returns_error request r) a.reply ∙ n) in
     subst (IsFlow start g) (sym a.events) (record {
       context = y;
       stands = slot_more a.before e ∙ (ap (λ (s : Slot). (answer s request bytes a.found).slot) a.flow.stands ∙ next);
@@ -144,4 +149,5 @@ call_flow start f g request bytes told handed new y a next w u j =
           ∙ ap (λ (l : List ℕ). bytes_out start ++ l) (sym j))));
       later = let l = a.flow.later in omega (arith, l, bad);
       goes_on = goes_on_both start a.before (a.before ++ e ∷ []) a.flow.goes_on (e ∷ [], refl);
+      hidden = hides_both start a.before (a.before ++ e ∷ []) a.flow.hidden (event_hides a.before e hides);
     })

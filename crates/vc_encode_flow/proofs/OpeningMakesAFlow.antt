@@ -20,7 +20,7 @@ use Rattle.vc_model.specs.Coder.{CodecState, encoder, reset, the_coder}
 use Rattle.vc_model.specs.Context.{Context, Slot, Running, run, fresh_context, is_dec, is_enc, settle}
 use Rattle.vc_model.specs.Answer.{answer, closed_answer, context_answer, with_control, control_answer}
 use Rattle.vc_model.specs.Places.{has_error}
-use Rattle.vc_model.specs.Handed.{handed_by_call}
+use Rattle.vc_model.specs.Handed.{handed_by_call, returns_error}
 use Rattle.vc_model.specs.Solo.{SoloEvent, Called, Answered, solo_step}
 use Rattle.vc_model.specs.Sound.{HasItsBuffers, IsOrdered}
 use Rattle.vc_laws.proofs.EffectsOfCalls.{CodecAfterFormat, CodecAfterBuffers, settle_is, Effect, effect_of, stays, has_events, has_out_format, has_out_buffers, has_cap_buffers}
@@ -29,6 +29,7 @@ use Rattle.vc_port.specs.Payloads.{slot_after, good_finishes, faulty_finishes, I
 use Rattle.vc_port.proofs.CallsHandOut.{slot-append, calls_hand_out}
 use Rattle.vc_flow.proofs.CallsAreGranted.{still_closed}
 use Rattle.vc_flow.proofs.CloseLeavesNothing.{faults_later}
+use Rattle.vc_flow.proofs.FaultsAreHidden.{call_hides}
 use Rattle.vc_encode_flow.specs.Frames.{joined}
 use Rattle.vc_encode_flow.specs.Flows.{FlowSoFar, flow_at_open, with_format, with_rates, HasBegun, IsKept, frames_for, state_for, payloads, AreGood, RunsAt, IsEncoding, IsUnderWay, IsFlow}
 use Rattle.vc_encode_flow.proofs.JobsKeepAFlow.{settled_same}
@@ -64,6 +65,7 @@ open_flow old before new after closed c =
       handed = hands.bytes;
       later = omega (arith, bad, again, more);
       goes_on = (c.jobs ++ e ∷ [], c.events ∙ same);
+      hidden = call_hides old before (Open Enc) Done new after c refl;
     }
 
 -- A flow that has begun, and did nothing
@@ -133,14 +135,14 @@ counted_so_far f c g h l m b (inr x) = not_one_more x.coded x.others x.lost (sym
 -- A call that leaves the context blank, and makes it encode as another flow says, which has begun too.
 blank_flow : (start : List SoloEvent) (f g : FlowSoFar) (request : Call) (told : Reply) (handed : List ℕ) (new : List SoloEvent) (y : Context) →
     (a : IsAsked start f request [] told handed new) → HasBegun f → HasBegun g → (answer (Some a.flow.context) request [] a.found).slot ≡ Some y →
-    IsEncoding g y → IsBlank y → handed_by_call request told handed ≡ [] → IsFlow start g new
-blank_flow start f g request told handed new y a b d next w k n =
+    IsEncoding g y → IsBlank y → handed_by_call request told handed ≡ [] → returns_error request told ≡ false → IsFlow start g new
+blank_flow start f g request told handed new y a b d next w k n h =
     let c = a.flow.context in
     let count = counted_so_far f c (good_finishes start) (good_finishes a.before) (faulty_finishes start) (faulty_finishes a.before) b a.flow.under_way in
     let same : joined g.taken ≡ joined f.taken = ap joined d.taken ∙ sym (ap joined b.taken) in
     call_flow start f g request [] told handed new y a next w
     (blank_under_way g y (good_finishes start) (good_finishes a.before) (faulty_finishes start) (faulty_finishes a.before) d count k.codec k.job
-    k.ready k.done k.sources) (same ∙ (sym (append-nil (joined f.taken)) ∙ ap (λ (l : List ℕ). joined f.taken ++ l) (sym n)))
+    k.ready k.done k.sources) (same ∙ (sym (append-nil (joined f.taken)) ∙ ap (λ (l : List ℕ). joined f.taken ++ l) (sym n))) h
 
 -- Formats, buffers and controls
 
@@ -200,7 +202,7 @@ format_flow start f want given handed new kept b a =
     let format : y.formats.out ≡ want = ap (λ (t : Kind). (formats_for t Out c.formats want).out) w.kind ∙ kept in
     blank_flow start f (with_format f want) (SetFmt Out want) (Fmt given) handed new y a b (record { queued = b.queued; taken = b.taken }) there
     (record { kind = w.kind; format = format; rates = w.rates; phase = w.phase; mark = w.mark; runs = w.runs })
-    (record { codec = ap reset k.codec; job = k.job; ready = k.ready; done = k.done; sources = k.sources; running = k.running }) refl
+    (record { codec = ap reset k.codec; job = k.job; ready = k.ready; done = k.done; sources = k.sources; running = k.running }) refl refl
 
 pub out_buffers_flow : (start : List SoloEvent) (f : FlowSoFar) (count number : ℕ) (handed : List ℕ) (new : List SoloEvent) → HasBegun f → IsAsked start f (ReqBufs Out count) [] (Count number) handed new → IsFlow start f new
 out_buffers_flow start f count number handed new b a =
@@ -211,7 +213,7 @@ out_buffers_flow start f count number handed new b a =
     let y : Context = record c { out = reqbufs_after c.out count there.0; codec = reset c.codec } in
     blank_flow start f f (ReqBufs Out count) (Count number) handed new y a b b there.1
     (record { kind = w.kind; format = w.format; rates = w.rates; phase = w.phase; mark = w.mark; runs = w.runs })
-    (record { codec = ap reset k.codec; job = refl; ready = refl; done = k.done; sources = refl; running = k.running }) refl
+    (record { codec = ap reset k.codec; job = refl; ready = refl; done = k.done; sources = refl; running = k.running }) refl refl
 
 pub cap_buffers_flow : (start : List SoloEvent) (f : FlowSoFar) (count number : ℕ) (handed : List ℕ) (new : List SoloEvent) → HasBegun f → IsAsked start f (ReqBufs Cap count) [] (Count number) handed new → IsFlow start f new
 cap_buffers_flow start f count number handed new b a =
@@ -237,7 +239,7 @@ cap_buffers_flow start f count number handed new b a =
       done = x.done;
       sources = subst (λ (q : QueueState). AreGood q.done) (sym x.out) k.sources;
       running = x.running ∙ k.running;
-    }) refl
+    }) refl refl
 
 -- the rates of a blank context are set
 sets_rates : (c : Context) (id value : ℕ) (found : Bool) (rates : RunRates) → c.phase ≡ run → c.mark ≡ None → with_control c.kind c.rates id value ≡ Some rates → (answer (Some c) (SetCtrl id value) [] found).slot ≡ Some (record c { rates = rates })
@@ -261,4 +263,4 @@ control_flow start f id value rates handed new e b a =
       mark = w.mark;
       runs = subst (λ (o : Option Running). RunsAt o rates) (sym k.running) tt;
     })
-    (record { codec = k.codec; job = k.job; ready = k.ready; done = k.done; sources = k.sources; running = k.running }) refl
+    (record { codec = k.codec; job = k.job; ready = k.ready; done = k.done; sources = k.sources; running = k.running }) refl refl

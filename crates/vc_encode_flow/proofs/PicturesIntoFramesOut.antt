@@ -104,7 +104,7 @@ picture_flow start f index used stamp bytes handed new a =
     call_flow start f (with_picture f bytes) (QBuf Out index used stamp) bytes Done handed new (queued_in c q.0 index used stamp bytes) a q.1
     (record { kind = w.kind; format = w.format; rates = w.rates; phase = w.phase; mark = w.mark; runs = w.runs })
     (queued_under_way f c q.0 index used stamp bytes (good_finishes start) (good_finishes a.before) (faulty_finishes start)
-    (faulty_finishes a.before) o.firm.out_side a.flow.under_way) (sym (append-nil (joined f.taken)))
+    (faulty_finishes a.before) o.firm.out_side a.flow.under_way) (sym (append-nil (joined f.taken))) refl
 
 -- Taking a frame
 
@@ -230,7 +230,7 @@ frame_flow start f block index used flags seq stamp handed new e a =
     call_flow start f (with_frame f handed) (DqBuf Cap block) [] (Taken index used flags seq stamp) handed new y a t.slot
     (record { kind = w.kind; format = w.format; rates = w.rates; phase = w.phase; mark = w.mark; runs = w.runs })
     (subst (λ (l : List ℕ). IsUnderWay (with_frame f l) y (good_finishes start) (good_finishes a.before) (faulty_finishes start)
-    (faulty_finishes a.before)) same u) (joined_more f.taken handed)
+    (faulty_finishes a.before)) same u) (joined_more f.taken handed) refl
 
 pub frame_fault : (start : List SoloEvent) (f : FlowSoFar) (block : Bool) (index used flags seq : ℕ) (stamp : Stamp) (handed : List ℕ)
     (new : List SoloEvent) → has_error flags ≡ true → IsAsked start f (DqBuf Cap block) [] (Taken index used flags seq stamp) handed new →
@@ -343,7 +343,7 @@ source_flow start f block index used flags seq stamp handed new e a =
     (record c { out = take_front c.out (t.front ∷ t.rest) }) a t.slot
     (record { kind = w.kind; format = w.format; rates = w.rates; phase = w.phase; mark = w.mark; runs = w.runs })
     (source_under_way f c t.front t.rest (good_finishes start) (good_finishes a.before) (faulty_finishes start) (faulty_finishes a.before) t.there good a.flow.under_way)
-    (sym (append-nil (joined f.taken)))
+    (sym (append-nil (joined f.taken))) e
 
 pub source_fault : (start : List SoloEvent) (f : FlowSoFar) (block : Bool) (index used flags seq : ℕ) (stamp : Stamp) (handed : List ℕ)
     (new : List SoloEvent) → has_error flags ≡ true → IsAsked start f (DqBuf Out block) [] (Taken index used flags seq stamp) handed new →

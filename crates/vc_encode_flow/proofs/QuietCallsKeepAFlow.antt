@@ -13,7 +13,7 @@ use Rattle.vc_model.specs.Coder.{the_coder}
 use Rattle.vc_model.specs.Context.{Context, Slot, run}
 use Rattle.vc_model.specs.Answer.{answer}
 use Rattle.vc_model.specs.Places.{has_error}
-use Rattle.vc_model.specs.Handed.{handed_by_call}
+use Rattle.vc_model.specs.Handed.{handed_by_call, returns_error}
 use Rattle.vc_model.specs.Solo.{SoloEvent}
 use Rattle.vc_model.specs.Sound.{IsOrdered, IsOrderedSlot}
 use Rattle.vc_model.proofs.EventsKeepSound.{always_ordered}
@@ -128,6 +128,11 @@ unfolding is_quiet
 hands_nothing (DqBuf side block) told handed q = absurd (false≢true q)
 hands_nothing request told handed q = refl
 
+hides_error : (request : Call) (told : Reply) → is_quiet request ≡ true → returns_error request told ≡ false
+unfolding is_quiet
+hides_error (DqBuf side block) told q = absurd (false≢true q)
+hides_error request told q = refl
+
 pub quiet_flow : (start : List SoloEvent) (f : FlowSoFar) (request : Call) (bytes : List ℕ) (told : Reply) (handed : List ℕ) (new : List SoloEvent) → is_quiet request ≡ true → IsAsked start f request bytes told handed new → IsFlow start f new
 unfolding answer
 quiet_flow start f request bytes told handed new q a =
@@ -137,4 +142,4 @@ quiet_flow start f request bytes told handed new q a =
     let y = quiet_effect c w.phase w.mark q e in
     call_flow start f f request bytes told handed new y.0 a y.1 (alike_encodes f c y.0 y.2 w)
     (alike_under_way f c y.0 (good_finishes start) (good_finishes a.before) (faulty_finishes start) (faulty_finishes a.before) y.2
-    a.flow.under_way) (sym (append-nil (joined f.taken)) ∙ ap (λ (l : List ℕ). joined f.taken ++ l) (sym (hands_nothing request told handed q)))
+    a.flow.under_way) (sym (append-nil (joined f.taken)) ∙ ap (λ (l : List ℕ). joined f.taken ++ l) (sym (hands_nothing request told handed q))) (hides_error request told q)

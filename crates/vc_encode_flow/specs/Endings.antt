@@ -10,6 +10,7 @@ use Rattle.vc_port.specs.Payloads.{bytes_out, good_finishes}
 use Rattle.vc_encode_flow.specs.Frames.{joined}
 use Rattle.vc_encode_flow.specs.Flows.{FlowSoFar, frames_for}
 use Rattle.vc_flow.specs.Calls.{HandedFirst}
+use Rattle.vc_flow.specs.Faults.{HidesFault}
 use Rattle.vc_flow.specs.Inputs.{BeginsWith}
 use Rattle.vc_encode_flow.specs.Steps.{StopsEarly}
 
@@ -54,7 +55,7 @@ pub record IsFrontWritten (format : Format) (rates : RunRates) (left written wri
   pub handed : HandedFirst start bytes events
 
 -- All whole pictures of the input were read and queued, and all their frames were handed out and written. What is left of the
--- input is no whole picture.
+-- input is no whole picture. No OUTPUT buffer with ERROR was dequeued.
 pub record IsThrough (start : List SoloEvent) (f : FlowSoFar) (size : ℕ) (whole : Bool) (first written left left_now : Option (List ℕ)) (events : List SoloEvent) : Type 0 where
   pub pictures : List (List ℕ)
   pub sizes : All (λ (p : List ℕ). length p ≡ size) pictures
@@ -67,6 +68,7 @@ pub record IsThrough (start : List SoloEvent) (f : FlowSoFar) (size : ℕ) (whol
   pub wrote : Appends first written (joined (frames_for f pictures))
   pub handed : bytes_out events ≡ bytes_out start ++ joined (frames_for f pictures)
   pub finishes : good_finishes start + length pictures ≤ good_finishes events
+  pub hidden : HidesFault start events
 
 -- Some first pictures of the input were queued. What was written is a prefix of their frames, and of what was handed out.
 pub record IsCutShort (start : List SoloEvent) (f : FlowSoFar) (size : ℕ) (first written left : Option (List ℕ)) (events : List SoloEvent) : Type 0 where

@@ -15,7 +15,7 @@ use Rattle.vc_model.specs.Context.{Context, Running, run}
 use Rattle.vc_model.specs.Places.{has_error}
 use Rattle.vc_model.specs.Solo.{SoloEvent}
 use Rattle.vc_port.specs.Payloads.{slot_after, bytes_out, good_finishes, faulty_finishes}
-use Rattle.vc_flow.specs.Faults.{GoesOn}
+use Rattle.vc_flow.specs.Faults.{GoesOn, HidesFault}
 use Rattle.vc_encode_flow.specs.Frames.{frames_from, state_from, joined}
 
 -- The format and the rates, the pictures that were queued, and the frames that were handed out, each in order.
@@ -96,7 +96,8 @@ abbrev pub IsUnderWay : FlowSoFar → Context → ℕ → ℕ → ℕ → ℕ �
 IsUnderWay f c good_before good_now faults_before faults_now =
     HasFrames f c good_before good_now ⊎ HasFault f c faults_before faults_now
 
--- The events of the slot, which began with others, have the flow: what was handed out since is its frames.
+-- The events of the slot, which began with others, have the flow: what was handed out since is its frames, and no OUTPUT buffer
+-- with ERROR was dequeued.
 pub record IsFlow (start : List SoloEvent) (f : FlowSoFar) (events : List SoloEvent) : Type 0 where
   pub context : Context
   pub stands : slot_after events ≡ Some context
@@ -105,6 +106,7 @@ pub record IsFlow (start : List SoloEvent) (f : FlowSoFar) (events : List SoloEv
   pub handed : bytes_out events ≡ bytes_out start ++ joined f.taken
   pub later : faulty_finishes start ≤ faulty_finishes events
   pub goes_on : GoesOn start events
+  pub hidden : HidesFault start events
 
 -- no picture was queued, and no frame was handed out
 pub record HasBegun (f : FlowSoFar) : Type 0 where

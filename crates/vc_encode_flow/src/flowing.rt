@@ -5,7 +5,7 @@ ghost use Rattle.vc_base.specs.Counts.{Rose};
 ghost use Rattle.vc_defs.specs.Laws.{AreRates};
 ghost use Rattle.vc_port.specs.Payloads.{slot_after, faulty_finishes};
 ghost use Rattle.vc_encode_flow.specs.Flows.{IsKept, rates_of, HasFlow};
-ghost use Rattle.vc_flow.specs.Faults.{HasFailed, ShowsFault};
+ghost use Rattle.vc_flow.specs.Faults.{HasFailed, ShowsFault, HidesFault};
 ghost use Rattle.vc_flow.specs.Inputs.{IsLong, IsBelow, IsJustLong};
 ghost use Rattle.vc_encode_flow.specs.Promises.{WritesFrames, LeavesPrefix, WritingTellsFault, ComesThrough, BreaksOff, BreakingOffTellsFault, RunsThrough, RunIsCutShort, Encodes, EncodesPrefix};
 
@@ -183,6 +183,8 @@ pub fn encode_on<R: Wait, P: PayloadPort, S: Source, K: Sink>(
     ensures write { result ≡ FlowEnd.WriteFault → Rose (K.faults sink.old) (K.faults sink.new) }
     ensures engine { result ≡ FlowEnd.EngineFault → faulty_finishes (P.events port.old) < faulty_finishes (P.events port.new) }
     ensures shown { result ≡ FlowEnd.EngineFault → ShowsFault (P.events port.old) (P.events port.new) }
+    ensures whole_unshown { result ≡ FlowEnd.Whole → HidesFault (P.events port.old) (P.events port.new) }
+    ensures short_unshown { result ≡ FlowEnd.ShortRaw → HidesFault (P.events port.old) (P.events port.new) }
     ensures long { result ≡ FlowEnd.TooLong → IsLong (S.left source.old) (S.left source.new) }
     ensures most { result ≡ FlowEnd.TooLong → IsJustLong format.now.size (S.left source.old) (S.left source.new) }
     ensures below { result ≢ FlowEnd.TooLong → IsBelow (S.left source.old) (S.left source.new) }

@@ -1,6 +1,7 @@
 pub mod CallsAreGranted
 pub mod CallsHandOut
 pub mod CloseLeavesNothing
+pub mod FaultsAreHidden
 pub mod FaultsShow
 pub mod FilledIsQueued
 pub mod InputsAreBounded

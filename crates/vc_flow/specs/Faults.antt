@@ -1,5 +1,5 @@
 -- How an engine's fault shows at a slot: an OUTPUT buffer with ERROR is dequeued, and a job was finished with a fault.
-use Rattle.std.specs.Prelude.{◌≡◌, ◌<◌, Bool, true, List, ◌++◌}
+use Rattle.std.specs.Prelude.{◌≡◌, ◌<◌, Bool, true, false, List, ◌++◌}
 use Rattle.std.specs.List.{list_any}
 use Rattle.vc_model.specs.Coder.{the_coder}
 use Rattle.vc_model.specs.Handed.{shows_fault}
@@ -20,7 +20,13 @@ pub record ShowsFault (start events : List SoloEvent) : Type 0 where
   pub goes_on : events ≡ start ++ since
   pub shown : is_shown (solo_run the_coder (slot_after start) since) ≡ true
 
--- It was, and a job was finished with a fault since the start.
+-- None was dequeued since the start.
+pub record HidesFault (start events : List SoloEvent) : Type 0 where
+  pub since : List SoloEvent
+  pub goes_on : events ≡ start ++ since
+  pub hidden : is_shown (solo_run the_coder (slot_after start) since) ≡ false
+
+-- One was, and a job was finished with a fault since the start.
 pub record HasFailed (start events : List SoloEvent) : Type 0 where
   pub shows : ShowsFault start events
   pub failed : faulty_finishes start < faulty_finishes events

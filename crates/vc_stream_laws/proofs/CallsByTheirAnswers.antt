@@ -20,7 +20,7 @@ use Rattle.vc_model.specs.Coder.{the_coder}
 use Rattle.vc_model.specs.Context.{Context, Slot, Cause, drain, change, PhaseState, run, owe, last, stopped, with_queue, is_dec, is_enc, is_run, is_stopped, is_drained, sizeimage, settle}
 use Rattle.vc_model.specs.Answer.{Answer, unchanged, refused, answered, unless, unless_or_block, is_no_whole_picture, taken_answer, both_stream, stop_answer, command_answer, streamoff_effect, after_capture_off, mark_after_restart, answer, context_answer}
 use Rattle.vc_model.specs.Drains.{takes_capture, takes_a_buffer, done_now}
-use Rattle.vc_model.specs.Handed.{handed_by}
+use Rattle.vc_model.specs.Handed.{handed_by, returns_error}
 use Rattle.vc_model.specs.Phases.{is_over, is_at_end, is_stopped_by_drain}
 use Rattle.vc_model.specs.Places.{has_error}
 use Rattle.vc_model.specs.Solo.{SoloEvent, Called, Answered, solo_step}
@@ -120,6 +120,7 @@ queued_good f since index used stamp bytes found e n w reply =
     call_good f g since (QBuf Out index used stamp) bytes found Done y w q.there reply (record {
       honest = eq-eqb (length bytes) used n;
       unasked = refl;
+      unshown = refl;
       resets = refl;
       decodes = settled_decoder g x y before q.settles;
       geometry = settled_geometry x y q.settles;
@@ -138,6 +139,7 @@ knows f c k h d =
 record IsAskedOnly (request : Call) (bytes : List ℕ) (told : Reply) : Type 0 where
   honest : is_honest_call request bytes told ≡ true
   unasked : call_asks_format request ≡ false
+  unshown : returns_error request told ≡ false
   resets : (c : Context) → call_resets c request told ≡ false
   drops : (c : Context) → call_drops c request told ≡ false
   takes : takes_a_buffer request told ≡ false
@@ -152,6 +154,7 @@ told_good f since request bytes found told k q w slot reply h =
     call_good f (record f { known = k }) since request bytes found told c w slot reply (record {
       honest = q.honest;
       unasked = q.unasked;
+      unshown = q.unshown;
       resets = q.resets c;
       decodes = knows f c k h w.decodes;
       geometry = refl;
@@ -182,7 +185,7 @@ pub pipe_good : (f : StreamSoFar) (since : List SoloEvent) (block : Bool) (bytes
     IsGood (record f { known = some_stop }) (since ++ Called (DqBuf Cap block) bytes found ∷ [])
 pipe_good f since block bytes found w reply =
     let p = pipe_told w.context block bytes found reply in
-    told_good f since (DqBuf Cap block) bytes found (Refused Pipe) some_stop (record { honest = refl; unasked = refl; resets = λ c. refl; drops = λ c. refl; takes = refl }) w p.1 reply p.0
+    told_good f since (DqBuf Cap block) bytes found (Refused Pipe) some_stop (record { honest = refl; unasked = refl; unshown = refl; resets = λ c. refl; drops = λ c. refl; takes = refl }) w p.1 reply p.0
 
 -- STOP
 
@@ -213,7 +216,7 @@ busy_good f since bytes found k w reply =
     let stands : is_stopped c.phase ≡ true = subst (λ z. IsKnown z c) k w.decodes.known in
     let t = always_tidy the_coder since c w.stands in
     told_good f since (DecCmd 1) bytes found (Refused Busy) stop_by_change
-    (record { honest = refl; unasked = refl; resets = λ c. refl; drops = λ c. refl; takes = refl }) w (ap (λ (a : Answer). a.slot) same ∙ b.1)
+    (record { honest = refl; unasked = refl; unshown = refl; resets = λ c. refl; drops = λ c. refl; takes = refl }) w (ap (λ (a : Answer). a.slot) same ∙ b.1)
     reply (by_cause c.phase stands (λ d. false≢true (ap is_some (sym (t.unmarked d)) ∙ b.0)))
 
 stop_begins : (c : Context) → both_stream c ≡ true → c.mark ≡ None → is_stopped_by_drain c.phase ≡ false → stop_answer c ≡ answered (record c { mark = Some c.out.next_ordinal }) Done
@@ -239,6 +242,7 @@ stop_good f since bytes found k e w reply =
     call_good f g since (DecCmd 1) bytes found Done y w (ap (λ (a : Answer). a.slot) same) reply (record {
       honest = refl;
       unasked = refl;
+      unshown = refl;
       resets = refl;
       decodes = settled_decoder g x y before u;
       geometry = settled_geometry x y u;
@@ -308,6 +312,7 @@ on_good f since bytes found w reply =
     call_good f g since (StreamOn Cap) bytes found Done y w (on_is c bytes found reply) reply (record {
       honest = refl;
       unasked = refl;
+      unshown = refl;
       resets = refl;
       decodes = settled_decoder g x y before u;
       geometry = settled_geometry x y u;
@@ -348,6 +353,7 @@ off_good f since bytes found h w reply =
     call_good f g since (StreamOff Cap) bytes found Done y w (off_is c bytes found d.kind none streams) reply (record {
       honest = refl;
       unasked = refl;
+      unshown = refl;
       resets = ap (λ (z : Kind). cond (is_enc z) c.cap.streams false) d.kind;
       decodes = settled_decoder g x y before u;
       geometry = settled_geometry x y u;
@@ -450,6 +456,7 @@ picture_good f since block bytes found index used flags seq stamp handed w reply
     (record {
       honest = refl;
       unasked = refl;
+      unshown = refl;
       resets = refl;
       decodes = record {
         kind = d.kind;
@@ -513,7 +520,7 @@ source_spoilt since block bytes found index used flags seq stamp n w reply =
     let x : Context = record c { out = take_front c.out c.out.done } in
     let u = settle_is x in
     let failed : has_failed t.rest ≡ true = or_first (has_error t.buffer.flags) (has_failed t.rest) (ap has_error t.same ∙ n) (ap has_failed (sym t.front) ∙ w.failed) in
-    spoilt_step since (Called (DqBuf Out block) bytes found) (settle x) w t.there (ap (λ (q : QueueState). has_failed q.done) (settled_out x (settle x) u) ∙ (ap (λ l. has_failed (take_front c.out l).done) t.front ∙ failed))
+    spoilt_step since (Called (DqBuf Out block) bytes found) (settle x) w t.there (ap (λ (q : QueueState). has_failed q.done) (settled_out x (settle x) u) ∙ (ap (λ l. has_failed (take_front c.out l).done) t.front ∙ failed)) (ap (λ r. returns_error (DqBuf Out block) r) reply ∙ n)
 
 -- a failed buffer comes from no good stream
 pub source_fails : {A : Type 0} → (f : StreamSoFar) (since : List SoloEvent) (block : Bool) (bytes : List ℕ) (found : Bool)

@@ -13,16 +13,16 @@ use Rattle.vc_model.specs.Coder.{the_coder}
 use Rattle.vc_model.specs.Context.{Context, Slot}
 use Rattle.vc_model.specs.Answer.{answer, context_answer}
 use Rattle.vc_model.specs.Places.{has_error}
-use Rattle.vc_model.specs.Solo.{SoloEvent, Called, Answered, solo_step}
+use Rattle.vc_model.specs.Solo.{SoloEvent, Called, Answered, solo_step, solo_run}
 use Rattle.vc_model.proofs.PartsOfTests.{or_cases}
 use Rattle.vc_queue.specs.Holds.{HoldState}
 use Rattle.vc_context.specs.Payloads.{handed_over}
-use Rattle.vc_port.specs.Payloads.{slot_after, with_call, IsCallOn, faulty_finishes}
-use Rattle.vc_stream_laws.specs.Streams.{StreamSoFar, with_queued, not_known, some_stop, stop_by_change, IsGood, IsSpoilt, IsStream}
-use Rattle.vc_stream_laws.specs.Laws.{is_refusal, is_quiet, QuietCallsKeep, BytesAreQueued, SourcesComeBack, FailedSourcesTell, NoneLeftTells, CaptureStarts, PicturesAreTaken, StopsAreTold, StopsBeforeEnd, ChangesAreTold, CaptureStops, DrainBegins}
+use Rattle.vc_port.specs.Payloads.{slot_after, told_at, with_call, IsCallOn, faulty_finishes}
+use Rattle.vc_stream_laws.specs.Streams.{StreamSoFar, with_queued, not_known, some_stop, stop_by_change, is_shown, IsGood, IsSpoilt, IsStream}
+use Rattle.vc_stream_laws.specs.Laws.{is_refusal, is_quiet, QuietCallsKeep, BytesAreQueued, SourcesComeBack, FailedSourcesTell, NoneLeftTells, CaptureStarts, PicturesAreTaken, StopsAreTold, StopsBeforeEnd, ChangesAreTold, CaptureStops, DrainBegins, StreamsShowNoFault}
 use Rattle.vc_stream_laws.proofs.OneEventMore.{slot_both, faulty_both, finishes_more}
 use Rattle.vc_stream_laws.proofs.JobsKeepAStream.{jobs_state, jobs_keep}
-use Rattle.vc_stream_laws.proofs.QuietCallsKeepAStream.{calm_of_quiet, calm_source, calm_good, leaves_sources, call_spoilt}
+use Rattle.vc_stream_laws.proofs.QuietCallsKeepAStream.{calm_of_quiet, quiet_hides, calm_source, calm_good, leaves_sources, call_spoilt}
 use Rattle.vc_stream_laws.proofs.CallsByTheirAnswers.{queued_good, pipe_good, busy_good, stop_good, known_before, on_good, off_good, picture_good, source_spoilt, source_fails, none_spoilt}
 
 -- A call came to a slot with the stream, and was answered.
@@ -108,8 +108,8 @@ quiet_calls_keep start old new f before after request told q n w call =
     (sym (call.events ∙ ap (λ r. with_call (old ++ call.jobs) r (Called request bytes call.found)) b))
     (jobs_keep start old call.jobs f call.of_jobs w)) (λ (b : told ≢ Blocked). let a = asked start old new f before after request told b w
     call in go_on start new f f request bytes told call.handed a
-    (λ g r h. calm_good f a.since request bytes a.found told (calm_of_quiet request told q) n g r)
-    (λ g r. call_spoilt a.since request bytes a.found told (leaves request told q) g r)) (blocked_or_not told)
+    (λ g r h. calm_good f a.since request bytes a.found told (calm_of_quiet request told q) n (quiet_hides request told q) g r)
+    (λ g r. call_spoilt a.since request bytes a.found told (leaves request told q) (quiet_hides request told q) g r)) (blocked_or_not told)
 
 -- OUTPUT
 
@@ -118,13 +118,13 @@ unfolding leaves_sources
 bytes_are_queued start old new f before after index used stamp e n w call =
     let bytes = handed_over (QBuf Out index used stamp) before in
     let a = asked start old new f before after (QBuf Out index used stamp) Done (λ (p : Done ≡ Blocked). absurd (cc)) w call in
-    go_on start new f (with_queued f bytes) (QBuf Out index used stamp) bytes Done call.handed a (λ g r h. queued_good f a.since index used stamp bytes a.found e n g r) (λ g r. call_spoilt a.since (QBuf Out index used stamp) bytes a.found Done refl g r)
+    go_on start new f (with_queued f bytes) (QBuf Out index used stamp) bytes Done call.handed a (λ g r h. queued_good f a.since index used stamp bytes a.found e n g r) (λ g r. call_spoilt a.since (QBuf Out index used stamp) bytes a.found Done refl refl g r)
 
 pub sources_come_back : SourcesComeBack
 sources_come_back start old new f before after block index used flags seq stamp e w call =
     let told = Taken index used flags seq stamp in
     let a = asked start old new f before after (DqBuf Out block) told (λ (p : told ≡ Blocked). absurd (cc)) w call in
-    go_on start new f f (DqBuf Out block) [] told call.handed a (λ g r h. calm_good f a.since (DqBuf Out block) [] a.found told (calm_source block told) refl g r) (λ g r. source_spoilt a.since block [] a.found index used flags seq stamp e g r)
+    go_on start new f f (DqBuf Out block) [] told call.handed a (λ g r h. calm_good f a.since (DqBuf Out block) [] a.found told (calm_source block told) refl e g r) (λ g r. source_spoilt a.since block [] a.found index used flags seq stamp e g r)
 
 more_faulty : (start since new : List SoloEvent) (e : SoloEvent) → slot_after start ≡ None → new ≡ start ++ (since ++ e ∷ []) → IsSpoilt since → faulty_finishes start < faulty_finishes new
 more_faulty start since new e closed goes_on w =
@@ -148,7 +148,7 @@ none_left_tells start old new f before after block w call =
       closed = a.closed;
       since = a.since ++ Called (DqBuf Out block) [] a.found ∷ [];
       goes_on = a.goes_on;
-      good = ⊎_elim (λ (g : IsGood f a.since). calm_good f a.since (DqBuf Out block) [] a.found told (calm_source block told) refl g
+      good = ⊎_elim (λ (g : IsGood f a.since). calm_good f a.since (DqBuf Out block) [] a.found told (calm_source block told) refl refl g
           (answered_at a.since g.context (DqBuf Out block) [] a.found told call.handed g.stands a.answered).0)
           (λ (g : IsSpoilt a.since). none_spoilt a.since block [] a.found g
           (answered_at a.since g.context (DqBuf Out block) [] a.found told call.handed g.stands a.answered).0) a.state;
@@ -160,7 +160,7 @@ pub capture_starts : CaptureStarts
 unfolding leaves_sources
 capture_starts start old new f before after w call =
     let a = asked start old new f before after (StreamOn Cap) Done (λ (p : Done ≡ Blocked). absurd (cc)) w call in
-    go_on start new f (record f { captures = true }) (StreamOn Cap) [] Done call.handed a (λ g r h. on_good f a.since [] a.found g r) (λ g r. call_spoilt a.since (StreamOn Cap) [] a.found Done refl g r)
+    go_on start new f (record f { captures = true }) (StreamOn Cap) [] Done call.handed a (λ g r h. on_good f a.since [] a.found g r) (λ g r. call_spoilt a.since (StreamOn Cap) [] a.found Done refl refl g r)
 
 pub pictures_are_taken : PicturesAreTaken
 unfolding leaves_sources
@@ -169,14 +169,14 @@ pictures_are_taken start old new f before after block index used flags seq stamp
     let a = asked start old new f before after (DqBuf Cap block) told (λ (p : told ≡ Blocked). absurd (cc)) w call in
     go_on start new f (record f { handed = f.handed ++ call.handed; damaged = f.damaged || has_error flags }) (DqBuf Cap block) [] told call.handed a
     (λ g r h. picture_good f a.since block [] a.found index used flags seq stamp call.handed g r h)
-    (λ g r. call_spoilt a.since (DqBuf Cap block) [] a.found told refl g r)
+    (λ g r. call_spoilt a.since (DqBuf Cap block) [] a.found told refl refl g r)
 
 pub stops_are_told : StopsAreTold
 unfolding leaves_sources
 stops_are_told start old new f before after block w call =
     let told = Refused Pipe in
     let a = asked start old new f before after (DqBuf Cap block) told (λ (p : told ≡ Blocked). absurd (cc)) w call in
-    go_on start new f (record f { known = some_stop }) (DqBuf Cap block) [] told call.handed a (λ g r h. pipe_good f a.since block [] a.found g r) (λ g r. call_spoilt a.since (DqBuf Cap block) [] a.found told refl g r)
+    go_on start new f (record f { known = some_stop }) (DqBuf Cap block) [] told call.handed a (λ g r h. pipe_good f a.since block [] a.found g r) (λ g r. call_spoilt a.since (DqBuf Cap block) [] a.found told refl refl g r)
 
 pub stops_before_end : StopsBeforeEnd
 stops_before_end start events f e k w =
@@ -192,16 +192,30 @@ unfolding leaves_sources
 changes_are_told start old new f before after k w call =
     let told = Refused Busy in
     let a = asked start old new f before after (DecCmd 1) told (λ (p : told ≡ Blocked). absurd (cc)) w call in
-    go_on start new f (record f { known = stop_by_change }) (DecCmd 1) [] told call.handed a (λ g r h. busy_good f a.since [] a.found k g r) (λ g r. call_spoilt a.since (DecCmd 1) [] a.found told refl g r)
+    go_on start new f (record f { known = stop_by_change }) (DecCmd 1) [] told call.handed a (λ g r h. busy_good f a.since [] a.found k g r) (λ g r. call_spoilt a.since (DecCmd 1) [] a.found told refl refl g r)
 
 pub capture_stops : CaptureStops
 unfolding leaves_sources
 capture_stops start old new f before after k w call =
     let a = asked start old new f before after (StreamOff Cap) Done (λ (p : Done ≡ Blocked). absurd (cc)) w call in
-    go_on start new f (record f { captures = false; known = not_known }) (StreamOff Cap) [] Done call.handed a (λ g r h. off_good f a.since [] a.found k g r) (λ g r. call_spoilt a.since (StreamOff Cap) [] a.found Done refl g r)
+    go_on start new f (record f { captures = false; known = not_known }) (StreamOff Cap) [] Done call.handed a (λ g r h. off_good f a.since [] a.found k g r) (λ g r. call_spoilt a.since (StreamOff Cap) [] a.found Done refl refl g r)
 
 pub drain_begins : DrainBegins
 unfolding leaves_sources
 drain_begins start old new f before after k e w call =
     let a = asked start old new f before after (DecCmd 1) Done (λ (p : Done ≡ Blocked). absurd (cc)) w call in
-    go_on start new f (record f { ends = true }) (DecCmd 1) [] Done call.handed a (λ g r h. stop_good f a.since [] a.found k e g r) (λ g r. call_spoilt a.since (DecCmd 1) [] a.found Done refl g r)
+    go_on start new f (record f { ends = true }) (DecCmd 1) [] Done call.handed a (λ g r h. stop_good f a.since [] a.found k e g r) (λ g r. call_spoilt a.since (DecCmd 1) [] a.found Done refl refl g r)
+
+-- No fault
+
+unshown_state : (f : StreamSoFar) (since : List SoloEvent) → IsGood f since ⊎ IsSpoilt since → is_shown (told_at since) ≡ false
+unshown_state f since (inl g) = g.client.unshown
+unshown_state f since (inr g) = g.unshown
+
+pub streams_show_no_fault : StreamsShowNoFault
+streams_show_no_fault start events f w =
+    record {
+      since = w.since;
+      goes_on = w.goes_on;
+      unshown = ap (λ (s : Slot). is_shown (solo_run the_coder s w.since)) w.closed ∙ unshown_state f w.since w.state;
+    }

@@ -13,7 +13,7 @@ use Rattle.vc_defs.specs.Outputs.{input_results}
 use Rattle.vc_model.specs.Coder.{the_coder}
 use Rattle.vc_model.specs.Context.{Context, Slot, Running, is_drained}
 use Rattle.vc_model.specs.Drains.{is_last_by_drain, gives_last, takes_capture, done_now}
-use Rattle.vc_model.specs.Handed.{is_finish_by, handed_by}
+use Rattle.vc_model.specs.Handed.{is_finish_by, handed_by, shows_fault}
 use Rattle.vc_model.specs.Phases.{is_over, is_stopped_by_drain}
 use Rattle.vc_model.specs.Places.{is_honest}
 use Rattle.vc_model.specs.Runs.{job_data, RunResult, copied, encoded, decoded, run_result}
@@ -80,6 +80,7 @@ pub record IsNext (g f : StreamSoFar) (seg : Segment) (c y : Context) (e : SoloE
   pub honest : is_honest e told ≡ true
   pub unasked : asks_format e ≡ false
   pub faultless : is_finish_by true e told ≡ false
+  pub unshown : shows_fault e told ≡ false
   pub decodes : IsDecoder g y
   pub begins : BeginsUnknown (segment_of_step the_coder seg c y e told).first y.geometry
   pub waits : IsWaiting g.queued (segment_of_step the_coder seg c y e told).bytes y.out
@@ -151,7 +152,7 @@ good_step f g since e y w next n t h =
     record {
       context = y;
       stands = slot_more since e ∙ (ap (λ (s : Slot). (solo_step the_coder s e).slot) w.stands ∙ next);
-      client = client_more since e (ap (λ (r : SoloReply). is_honest e r) same_told ∙ n.honest) n.unasked w.client;
+      client = client_more since e (ap (λ (r : SoloReply). is_honest e r) same_told ∙ n.honest) n.unasked (ap (λ (r : SoloReply). shows_fault e r) same_told ∙ n.unshown) w.client;
       decodes = n.decodes;
       begins = begins;
       waits = waits;

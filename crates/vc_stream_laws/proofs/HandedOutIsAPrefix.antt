@@ -22,7 +22,7 @@ use Rattle.vc_model.specs.Answer.{answer}
 use Rattle.vc_model.specs.Phases.{is_over}
 use Rattle.vc_model.specs.Places.{has_error}
 use Rattle.vc_model.specs.Runs.{type_flag}
-use Rattle.vc_model.specs.Solo.{SoloEvent, Called, Answered, solo_step}
+use Rattle.vc_model.specs.Solo.{SoloEvent, Called, Answered, solo_step, solo_run}
 use Rattle.vc_laws.specs.Segments.{SegmentResult, segment_of, whats}
 use Rattle.vc_laws.specs.Following.{is_no_change, HasFlags, HoldsKind, OneForOne, in_buffers, is_by_run, by_runs}
 use Rattle.vc_laws.specs.FirstFormats.{IsInFirst}
@@ -32,9 +32,9 @@ use Rattle.vc_laws.proofs.PicturesAreInFirst.{pictures_are_in_first}
 use Rattle.vc_laws.proofs.DoneBuffersHoldPictures.{pictures_are_handed_out}
 use Rattle.vc_laws.proofs.DecoderFollows.{retired_are_results, segments_begin, follows}
 use Rattle.vc_port.specs.Payloads.{slot_after, bytes_out, good_finishes}
-use Rattle.vc_stream_laws.specs.Streams.{StreamSoFar, has_failed, rest_of, BeginsUnknown, IsGood, IsDecoded}
+use Rattle.vc_stream_laws.specs.Streams.{StreamSoFar, has_failed, is_shown, rest_of, BeginsUnknown, IsGood, IsDecoded}
 use Rattle.vc_stream_laws.specs.Laws.{FrontIsHandedOut, DrainIsOver, NoResultsNoOutput}
-use Rattle.vc_stream_laws.proofs.OneEventMore.{slot_both, bytes_both, good_both, bytes_more, finishes_more}
+use Rattle.vc_stream_laws.proofs.OneEventMore.{slot_both, bytes_both, good_both, bytes_more, finishes_more, unshown_more}
 use Rattle.vc_stream_laws.proofs.GoodStreamsGoOn.{none_begins}
 use Rattle.vc_stream_laws.proofs.JobsKeepAStream.{halted_jobs}
 use Rattle.vc_stream_laws.proofs.CallsByTheirAnswers.{stop_over}
@@ -227,6 +227,11 @@ decoded_at start new since f found closed goes_on a =
       output = all_output f since a;
       damaged = all_damaged f since a;
       finishes = omega (arith, number, all, both, more);
+      unshown = record {
+        since = since ++ e ∷ [];
+        goes_on = goes_on;
+        unshown = ap (λ (s : Slot). is_shown (solo_run the_coder s (since ++ e ∷ []))) closed ∙ unshown_more since e a.good.client.unshown refl;
+      };
     }
 
 pub drain_is_over : DrainIsOver

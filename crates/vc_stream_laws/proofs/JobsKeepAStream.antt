@@ -8,7 +8,7 @@ use Rattle.vc_defs.specs.declared.Geometry.{Geometry}
 use Rattle.vc_model.specs.Coder.{the_coder}
 use Rattle.vc_model.specs.Context.{Context, Slot, Running, RunSort, PhaseState, run, owe, last, stopped, is_run, is_stopped}
 use Rattle.vc_model.specs.Drains.{takes_capture}
-use Rattle.vc_model.specs.Handed.{is_finish_by, handed_by}
+use Rattle.vc_model.specs.Handed.{is_finish_by, handed_by, shows_fault}
 use Rattle.vc_model.specs.Phases.{is_over}
 use Rattle.vc_model.specs.Places.{is_honest, HaveBytes}
 use Rattle.vc_model.specs.Runs.{sort_of, running_of, JobData, job_data, RunResult, copied, encoded, decoded, run_result}
@@ -24,11 +24,11 @@ use Rattle.vc_laws.proofs.EffectsOfEvents.{HasJob, Ends, alone, kept, ended, hal
 use Rattle.vc_laws.proofs.OpenContextsAreTidy.{IsTidy, IsRunOf, HasRun, always_tidy}
 use Rattle.vc_laws.proofs.SegmentsGoOn.{finished_segment, nothing_segment}
 use Rattle.vc_model.specs.Drains.{done_now}
-use Rattle.vc_port.specs.Payloads.{slot_after, is_of_job, AreOfJobs}
-use Rattle.vc_stream_laws.specs.Streams.{StreamSoFar, some_stop, has_failed, rest_of, IsWaiting, IsKnown, IsDecoder, BeginsUnknown, IsGood, IsSpoilt}
+use Rattle.vc_port.specs.Payloads.{slot_after, told_at, is_of_job, AreOfJobs}
+use Rattle.vc_stream_laws.specs.Streams.{StreamSoFar, some_stop, has_failed, is_shown, rest_of, IsWaiting, IsKnown, IsDecoder, BeginsUnknown, IsGood, IsSpoilt}
 use Rattle.vc_stream_laws.specs.Laws.{JobsKeep}
 use Rattle.vc_stream_laws.proofs.DecodersAreAsKnown.{run_not_stopped, stopped_by, stopped_is_over, along_both, decoder_on, settled_along, settled_out, settled_geometry, settled_stopped, ended_along, ended_stopped, ended_good, fault_failed, ended_failed}
-use Rattle.vc_stream_laws.proofs.OneEventMore.{slot_more, count_of, counts_one, finishes_more}
+use Rattle.vc_stream_laws.proofs.OneEventMore.{slot_more, count_of, counts_one, finishes_more, unshown_more}
 use Rattle.vc_stream_laws.proofs.GoodStreamsGoOn.{IsNext, quiet_step}
 use Rattle.vc_stream_laws.proofs.ConsumedAndWaiting.{run_waits}
 use Rattle.vc_model.proofs.HandedBuffersAreWhole.{sources_are_whole}
@@ -65,6 +65,7 @@ ended_begins seg c r j b made x e w g (spends step k h back) = after_begins seg 
 record IsFault (c y : Context) (e : SoloEvent) (told : SoloReply) : Type 0 where
   failed : has_failed y.out.done ≡ true
   fault : is_finish_by true e told ≡ true
+  unshown : shows_fault e told ≡ false
   runs : is_run c.phase ≡ true
 
 JobGoesOn : StreamSoFar → Segment → Context → SoloEvent → SoloReply → Slot → Type 0
@@ -72,14 +73,15 @@ JobGoesOn f seg c e told slot = (y : Context) × (slot ≡ Some y) × (IsNext f 
 
 -- nothing happened
 still_next : (f : StreamSoFar) (seg : Segment) (c : Context) (e : SoloEvent) (told : SoloReply) → is_honest e told ≡ true → asks_format e ≡ false →
-    is_finish_by true e told ≡ false → segment_of_step the_coder seg c c e told ≡ record seg
+    is_finish_by true e told ≡ false → shows_fault e told ≡ false → segment_of_step the_coder seg c c e told ≡ record seg
     { sources = seg.sources ++ []; retired = seg.retired ++ done_now c c } → IsDecoder f c → BeginsUnknown seg.first c.geometry →
     IsWaiting f.queued seg.bytes c.out → IsNext f f seg c c e told
-still_next f seg c e told h a n same w b q =
+still_next f seg c e told h a n s same w b q =
     record {
       honest = h;
       unasked = a;
       faultless = n;
+      unshown = s;
       decodes = w;
       begins = subst (λ (z : Segment). BeginsUnknown z.first c.geometry) (sym same) b;
       waits = subst (λ (z : Segment). IsWaiting f.queued z.bytes c.out) (sym same) q;
@@ -108,6 +110,7 @@ claim_next f seg c b rest k o p s i r w g q =
       honest = refl;
       unasked = refl;
       faultless = refl;
+      unshown = refl;
       decodes = decoder_on f c y w (record { kind = refl; limit = refl; feeds = refl; captures = s; mark = refl; next = refl }) w.unfailed n n;
       begins = g;
       waits = record { waits = q.waits ∙ (ap (λ l. seg.bytes ++ flat_map rest_of (l ++ c.out.ready)) i ∙ ap (λ l. seg.bytes ++ flat_map rest_of l) r); unbegun = q.unbegun };
@@ -131,6 +134,7 @@ finish_next f seg c r job x y word o t h w g q ends u =
       honest = refl;
       unasked = refl;
       faultless = refl;
+      unshown = refl;
       decodes = decoder_on f c y w (along_both c x y (ended_along c j job.source x ends) (settled_along x y u)) good (run_not_stopped c.phase job.runs) still;
       begins = subst (λ (z : Segment). BeginsUnknown z.first y.geometry) (sym same) begins;
       waits = subst (λ (z : Segment). IsWaiting f.queued z.bytes y.out) (sym same) (subst (IsWaiting f.queued (after_run seg r j made).bytes) (sym (settled_out x y u)) (run_waits f.queued seg c r job x w.kind ran o.firm.has_codec h q ends));
@@ -144,15 +148,15 @@ job_next : (f : StreamSoFar) (seg : Segment) (c : Context) {e : SoloEvent} {told
 unfolding JobGoesOn
 job_next f seg c o t h w g q j (calls e) = absurd (false≢true j)
 job_next f seg c o t h w g q j rests =
-    (c, refl, inl (still_next f seg c Claims Nothing refl refl refl refl w g q))
+    (c, refl, inl (still_next f seg c Claims Nothing refl refl refl refl refl w g q))
 job_next f seg c o t h w g q j (lacks_job {fault = fault} n) =
-    (c, refl, inl (still_next f seg c (Finishes fault) Nothing refl refl refl (nothing_segment the_coder seg c fault n) w g q))
+    (c, refl, inl (still_next f seg c (Finishes fault) Nothing refl refl refl refl (nothing_segment the_coder seg c fault n) w g q))
 job_next f seg c o t h w g q j (claims b rest k e n i d p z y) =
     (_, refl, inl (claim_next f seg c b rest k (Some (running_of c (sort_of c.kind c.geometry))) p (claimed_streams c (sort_of c.kind c.geometry) k y) i e w g q))
 job_next f seg c o t h w g q j (finishes {word = word} r x y job ends u z) =
     (y, refl, inl (finish_next f seg c r job x y word o t h w g q ends u))
 job_next f seg c o t h w g q j (faults {word = word} r x y job ends u) =
-    (y, refl, inr (record { failed = ap (λ (k : QueueState). has_failed k.done) (settled_out x y u) ∙ fault_failed c (job_data c r) job.source x refl ends; fault = refl; runs = job.runs }))
+    (y, refl, inr (record { failed = ap (λ (k : QueueState). has_failed k.done) (settled_out x y u) ∙ fault_failed c (job_data c r) job.source x refl ends; fault = refl; unshown = refl; runs = job.runs }))
 
 -- Events
 
@@ -180,12 +184,17 @@ hands_none (Called request bytes found) told j = absurd (false≢true j)
 hands_none Claims told j = refl
 hands_none (Finishes fault) told j = refl
 
+shows_none : (e : SoloEvent) (told : SoloReply) → is_of_job e ≡ true → shows_fault e told ≡ false
+shows_none (Called request bytes found) told j = absurd (false≢true j)
+shows_none Claims told j = refl
+shows_none (Finishes fault) told j = refl
+
 -- the events with one more, where the context was running or nothing failed
 JobEnds : StreamSoFar → List SoloEvent → SoloEvent → Context → Type 0
 JobEnds f since e c = IsGood f (since ++ e ∷ []) ⊎ (IsSpoilt (since ++ e ∷ []) × (is_run c.phase ≡ true))
 
-fault_spoilt : (since : List SoloEvent) (e : SoloEvent) (c y : Context) → slot_after since ≡ Some c → (solo_step the_coder (Some c) e).slot ≡ Some y → IsFault c y e (solo_step the_coder (Some c) e).told → IsSpoilt (since ++ e ∷ [])
-fault_spoilt since e c y at next n =
+fault_spoilt : (since : List SoloEvent) (e : SoloEvent) (c y : Context) → slot_after since ≡ Some c → (solo_step the_coder (Some c) e).slot ≡ Some y → is_shown (told_at since) ≡ false → IsFault c y e (solo_step the_coder (Some c) e).told → IsSpoilt (since ++ e ∷ [])
+fault_spoilt since e c y at next h n =
     let counted = finishes_more true since e in
     let same = ap (λ (s : Slot). count_of true e (solo_step the_coder s e).told) at in
     let one = counts_one true e (solo_step the_coder (Some c) e).told n.fault in
@@ -194,6 +203,7 @@ fault_spoilt since e c y at next n =
       stands = slot_more since e ∙ (ap (λ (s : Slot). (solo_step the_coder s e).slot) at ∙ next);
       failed = n.failed;
       faulty = omega (arith, counted, same, one);
+      unshown = unshown_more since e h (ap (λ (s : Slot). shows_fault e (solo_step the_coder s e).told) at ∙ n.unshown);
     }
 
 job_good : (f : StreamSoFar) (since : List SoloEvent) (e : SoloEvent) → is_of_job e ≡ true → (w : IsGood f since) → JobEnds f since e w.context
@@ -206,7 +216,7 @@ job_good f since e j w =
     let g = job_next f (segment_of the_coder since) c o t (sources_are_whole the_coder since c w.client.honest w.stands).1 w.decodes w.begins w.waits j (step_of the_coder c e o) in
     ⊎_elim (λ (n : IsNext f f (segment_of the_coder since) c g.0 e told). inl
     (quiet_step f f since e g.0 w g.1 n (no_reset c e told j n.faultless) (no_drop c e told j) (takes_none e told j) (hands_none e told j) refl
-    refl)) (λ (n : IsFault c g.0 e told). inr (fault_spoilt since e c g.0 w.stands g.1 n, n.runs)) g.2
+    refl)) (λ (n : IsFault c g.0 e told). inr (fault_spoilt since e c g.0 w.stands g.1 w.client.unshown n, n.runs)) g.2
 
 -- A stream with a fault
 
@@ -224,8 +234,9 @@ spoilt_next c h j (finishes r x y job ends u z) =
 spoilt_next c h j (faults r x y job ends u) =
     (y, refl, ap (λ (o : QueueState). has_failed o.done) (settled_out x y u) ∙ ended_failed c (job_data c r) job.source x h ends)
 
-pub spoilt_step : (since : List SoloEvent) (e : SoloEvent) (y : Context) → (w : IsSpoilt since) → (solo_step the_coder (Some w.context) e).slot ≡ Some y → has_failed y.out.done ≡ true → IsSpoilt (since ++ e ∷ [])
-spoilt_step since e y w next h =
+pub spoilt_step : (since : List SoloEvent) (e : SoloEvent) (y : Context) → (w : IsSpoilt since) → (solo_step the_coder (Some w.context) e).slot ≡ Some y → has_failed y.out.done ≡ true →
+    shows_fault e (solo_step the_coder (Some w.context) e).told ≡ false → IsSpoilt (since ++ e ∷ [])
+spoilt_step since e y w next h n =
     let counted = finishes_more true since e in
     let before = w.faulty in
     record {
@@ -233,6 +244,7 @@ spoilt_step since e y w next h =
       stands = slot_more since e ∙ (ap (λ (s : Slot). (solo_step the_coder s e).slot) w.stands ∙ next);
       failed = h;
       faulty = omega (arith, counted, before);
+      unshown = unshown_more since e w.unshown (ap (λ (s : Slot). shows_fault e (solo_step the_coder s e).told) w.stands ∙ n);
     }
 
 job_spoilt : (since : List SoloEvent) (e : SoloEvent) → is_of_job e ≡ true → IsSpoilt since → IsSpoilt (since ++ e ∷ [])
@@ -241,7 +253,7 @@ job_spoilt since e j w =
     let c = w.context in
     let o : IsOrdered c = subst IsOrderedSlot w.stands (always_ordered the_coder since) in
     let g = spoilt_next c w.failed j (step_of the_coder c e o) in
-    spoilt_step since e g.0 w g.1 g.2
+    spoilt_step since e g.0 w g.1 g.2 (shows_none e (solo_step the_coder (Some c) e).told j)
 
 -- All of them
 

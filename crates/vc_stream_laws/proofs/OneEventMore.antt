@@ -4,13 +4,14 @@ use Rattle.std.proofs.Common.{ℕ, ◌≡◌, ◌+◌, Bool, true, false, cond, 
 use Rattle.std.proofs.lemmas.List.{append-nil}
 use Rattle.vc_model.specs.Coder.{the_coder}
 use Rattle.vc_model.specs.Context.{Slot}
-use Rattle.vc_model.specs.Handed.{is_finish_by, handed_by, handed_out, finishes_by_fault}
+use Rattle.std.proofs.lemmas.Bool.{false≢true}
+use Rattle.vc_model.specs.Handed.{is_finish_by, handed_by, handed_out, finishes_by_fault, shows_fault}
 use Rattle.vc_model.specs.Places.{is_honest, AreHonest}
 use Rattle.vc_model.specs.Solo.{SoloEvent, SoloReply, SoloEntry, solo_step, solo_run, solo_slot}
 use Rattle.vc_laws.specs.FirstFormats.{asks_format, asked_by, asked_from, asked_format}
 use Rattle.vc_port.specs.Payloads.{slot_after, told_at, bytes_out, good_finishes, faulty_finishes}
 use Rattle.vc_port.proofs.CallsHandOut.{slot-append}
-use Rattle.vc_stream_laws.specs.Streams.{IsPlainClient}
+use Rattle.vc_stream_laws.specs.Streams.{is_shown, IsPlainClient}
 
 -- Runs
 
@@ -31,6 +32,16 @@ finishes_append fault (x ∷ xs) ys = omega (arith, finishes_append fault xs ys)
 honest_append : (xs : List SoloEntry) (x : SoloEntry) → AreHonest xs → is_honest x.event x.told ≡ true → AreHonest (xs ++ x ∷ [])
 honest_append [] x h e = (e, tt)
 honest_append (y ∷ xs) x h e = (h.0, honest_append xs x h.1 e)
+
+neither : (a b : Bool) → (a || b) ≡ false → (a ≡ false) × (b ≡ false)
+neither true b e = absurd (false≢true (sym e))
+neither false b e = (refl, e)
+
+unshown_append : (xs : List SoloEntry) (x : SoloEntry) → is_shown xs ≡ false → shows_fault x.event x.told ≡ false → is_shown (xs ++ x ∷ []) ≡ false
+unshown_append [] x h e = ap (λ (b : Bool). b || false) e
+unshown_append (y ∷ xs) x h e =
+    let n = neither (shows_fault y.event y.told) (is_shown xs) h in
+    ap (λ (b : Bool). b || is_shown (xs ++ x ∷ [])) n.0 ∙ unshown_append xs x n.1 e
 
 -- Events that go on from others, after which the slot was closed
 
@@ -91,6 +102,10 @@ honest_more : (events : List SoloEvent) (e : SoloEvent) → AreHonest (told_at e
 honest_more events e h n =
     subst AreHonest (sym (told_more events e)) (honest_append (told_at events) (record { event = e; told = (solo_step the_coder (slot_after events) e).told }) h n)
 
+pub unshown_more : (events : List SoloEvent) (e : SoloEvent) → is_shown (told_at events) ≡ false → shows_fault e (solo_step the_coder (slot_after events) e).told ≡ false → is_shown (told_at (events ++ e ∷ [])) ≡ false
+unshown_more events e h n =
+    ap is_shown (told_more events e) ∙ unshown_append (told_at events) (record { event = e; told = (solo_step the_coder (slot_after events) e).told }) h n
+
 asked_more : (asked : Bool) (s : Slot) (es : List SoloEvent) (e : SoloEvent) → asked_from the_coder asked s (es ++ e ∷ []) ≡ asked_by (solo_slot the_coder s es) (asked_from the_coder asked s es) e
 asked_more asked s [] e = refl
 asked_more asked s (x ∷ es) e = asked_more (asked_by s asked x) (solo_step the_coder s x).slot es e
@@ -99,9 +114,11 @@ asks_none : (s : Slot) (asked : Bool) (e : SoloEvent) → asked ≡ false → as
 asks_none None asked e a n = refl
 asks_none (Some c) asked e a n = ap (λ b. b || asks_format e) a ∙ n
 
-pub client_more : (events : List SoloEvent) (e : SoloEvent) → is_honest e (solo_step the_coder (slot_after events) e).told ≡ true → asks_format e ≡ false → IsPlainClient events → IsPlainClient (events ++ e ∷ [])
-client_more events e n a w =
+pub client_more : (events : List SoloEvent) (e : SoloEvent) → is_honest e (solo_step the_coder (slot_after events) e).told ≡ true → asks_format e ≡ false →
+    shows_fault e (solo_step the_coder (slot_after events) e).told ≡ false → IsPlainClient events → IsPlainClient (events ++ e ∷ [])
+client_more events e n a s w =
     record {
       honest = honest_more events e w.honest n;
       unasked = asked_more false None events e ∙ asks_none (slot_after events) (asked_format the_coder events) e w.unasked a;
+      unshown = unshown_more events e w.unshown s;
     }

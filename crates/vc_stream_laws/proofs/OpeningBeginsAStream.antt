@@ -24,7 +24,7 @@ use Rattle.vc_model.specs.Coder.{the_coder}
 use Rattle.vc_model.specs.Context.{Context, Slot, drain, owe, run, fresh_context, format_of, is_dec, is_enc, is_run, is_drained, with_queue, sizeimage, settle}
 use Rattle.vc_model.specs.Answer.{Answer, answered, unless, set_refusal, after_new_format, answer, closed_answer, context_answer}
 use Rattle.vc_model.specs.Drains.{done_now}
-use Rattle.vc_model.specs.Handed.{is_finish_by, handed_by}
+use Rattle.vc_model.specs.Handed.{is_finish_by, handed_by, returns_error, shows_fault}
 use Rattle.vc_model.specs.Phases.{is_over, is_stopped_by_drain}
 use Rattle.vc_model.specs.Places.{is_honest}
 use Rattle.vc_model.specs.Solo.{SoloEvent, Called, Claims, Finishes, SoloReply, Answered, Nothing, solo_step}
@@ -65,7 +65,7 @@ closed_job since Claims j w =
     let before = w.unfailed in
     record {
       stands = slot_more since Claims ∙ ap (λ (s : Slot). (solo_step the_coder s Claims).slot) w.stands;
-      client = client_more since Claims (ap (λ (s : Slot). is_honest Claims (solo_step the_coder s Claims).told) w.stands) refl w.client;
+      client = client_more since Claims (ap (λ (s : Slot). is_honest Claims (solo_step the_coder s Claims).told) w.stands) refl refl w.client;
       handed = bytes_more since Claims ∙ (append-nil (bytes_out since) ∙ w.handed);
       unfailed = omega (arith, counted, same, before);
     }
@@ -76,7 +76,7 @@ closed_job since (Finishes fault) j w =
     let before = w.unfailed in
     record {
       stands = slot_more since e ∙ ap (λ (s : Slot). (solo_step the_coder s e).slot) w.stands;
-      client = client_more since e (ap (λ (s : Slot). is_honest e (solo_step the_coder s e).told) w.stands) refl w.client;
+      client = client_more since e (ap (λ (s : Slot). is_honest e (solo_step the_coder s e).told) w.stands) refl refl w.client;
       handed = bytes_more since e ∙ (append-nil (bytes_out since) ∙ w.handed);
       unfailed = omega (arith, counted, same, before);
     }
@@ -87,7 +87,7 @@ closed_jobs since (e ∷ js) a w =
     subst IsClosed (append_assoc since (e ∷ []) js) (closed_jobs (since ++ e ∷ []) js (and_right (is_of_job e) _ a) (closed_job since e (and_left (is_of_job e) _ a) w))
 
 closed_at_start : IsClosed []
-closed_at_start = record { stands = refl; client = record { honest = tt; unasked = refl }; handed = refl; unfailed = refl }
+closed_at_start = record { stands = refl; client = record { honest = tt; unasked = refl; unshown = refl }; handed = refl; unfailed = refl }
 
 -- Idle decoders
 
@@ -117,10 +117,10 @@ fresh_grown c y e told r a s d =
 -- one event more
 fresh_step : (limited then_limited : Bool) (since : List SoloEvent) (e : SoloEvent) (y : Context) → (w : IsFresh limited since) →
     let told = (solo_step the_coder (Some w.context) e).told in (solo_step the_coder (Some w.context) e).slot ≡ Some y → is_honest e told ≡ true →
-    asks_format e ≡ false → is_finish_by true e told ≡ false → handed_by e told ≡ [] → IsIdle y →
+    asks_format e ≡ false → shows_fault e told ≡ false → is_finish_by true e told ≡ false → handed_by e told ≡ [] → IsIdle y →
     (then_limited ≡ true → y.formats.out.size ≡ most_bytes) → segment_of_step the_coder (fresh_segment []) w.context y e told ≡ fresh_segment [] →
     IsFresh then_limited (since ++ e ∷ [])
-fresh_step limited then_limited since e y w next h a n o idle l s =
+fresh_step limited then_limited since e y w next h a f n o idle l s =
     let c = w.context in
     let told = (solo_step the_coder (Some c) e).told in
     let same : (solo_step the_coder (slot_after since) e).told ≡ told = ap (λ (z : Slot). (solo_step the_coder z e).told) w.stands in
@@ -131,7 +131,7 @@ fresh_step limited then_limited since e y w next h a n o idle l s =
     record {
       context = y;
       stands = slot_more since e ∙ (ap (λ (z : Slot). (solo_step the_coder z e).slot) w.stands ∙ next);
-      client = client_more since e (ap (λ (r : SoloReply). is_honest e r) same ∙ h) a w.client;
+      client = client_more since e (ap (λ (r : SoloReply). is_honest e r) same ∙ h) a (ap (λ (r : SoloReply). shows_fault e r) same ∙ f) w.client;
       idle = idle;
       limit = l;
       segment = segment_more the_coder (fresh_segment []) None since e
@@ -172,10 +172,10 @@ rest_segment c Claims j n d = fresh_grown c c Claims Nothing refl refl refl d
 rest_segment c (Finishes fault) j n d =
     nothing_segment the_coder (fresh_segment []) c fault n ∙ ap (λ (bs : List Buffer). record (fresh_segment []) { sources = []; retired = [] ++ bs }) (none_done c c d)
 
-job_honest : (e : SoloEvent) → is_of_job e ≡ true → (is_honest e Nothing ≡ true) × (asks_format e ≡ false) × (is_finish_by true e Nothing ≡ false) × (handed_by e Nothing ≡ [])
+job_honest : (e : SoloEvent) → is_of_job e ≡ true → (is_honest e Nothing ≡ true) × (asks_format e ≡ false) × (is_finish_by true e Nothing ≡ false) × (handed_by e Nothing ≡ []) × ((told : SoloReply) → shows_fault e told ≡ false)
 job_honest (Called request bytes found) j = absurd (false≢true j)
-job_honest Claims j = (refl, refl, refl, refl)
-job_honest (Finishes fault) j = (refl, refl, refl, refl)
+job_honest Claims j = (refl, refl, refl, refl, λ told. refl)
+job_honest (Finishes fault) j = (refl, refl, refl, refl, λ told. refl)
 
 fresh_job : (limited : Bool) (since : List SoloEvent) (e : SoloEvent) → is_of_job e ≡ true → IsFresh limited since → IsFresh limited (since ++ e ∷ [])
 unfolding IdleGoesOn
@@ -184,7 +184,7 @@ fresh_job limited since e j w =
     let o = ordered_at since c w.stands in
     let g = idle_job c w.idle j (step_of the_coder c e o) in
     let h = job_honest e j in
-    fresh_step limited limited since e c w g.0 (ap (λ r. is_honest e r) g.1 ∙ h.0) h.1 (ap (λ r. is_finish_by true e r) g.1 ∙ h.2)
+    fresh_step limited limited since e c w g.0 (ap (λ r. is_honest e r) g.1 ∙ h.0) h.1 (h.4 (solo_step the_coder (Some c) e).told) (ap (λ r. is_finish_by true e r) g.1 ∙ h.2)
     (ap (λ r. handed_by e r) g.1 ∙ h.3) w.idle w.limit (ap (λ r. segment_of_step the_coder (fresh_segment []) c c e r) g.1
     ∙ rest_segment c e j w.idle.running w.idle.retired)
 
@@ -228,17 +228,17 @@ asked_fresh start old new limited before after request told n h w call =
 call_fresh : (start new : List SoloEvent) (limited then_limited : Bool) (request : Call) (told : Reply) (y : Context) →
     (a : IsAskedFresh start limited request told new) → (context_answer a.fresh.context request [] a.found).slot ≡ Some y →
     is_honest (Called request [] a.found) (Answered told (context_answer a.fresh.context request [] a.found).bytes) ≡ true →
-    asks_format (Called request [] a.found) ≡ false → handed_by (Called request [] a.found)
+    asks_format (Called request [] a.found) ≡ false → returns_error request told ≡ false → handed_by (Called request [] a.found)
     (Answered told (context_answer a.fresh.context request [] a.found).bytes) ≡ [] → IsIdle y →
     (then_limited ≡ true → y.formats.out.size ≡ most_bytes) → segment_of_step the_coder (fresh_segment []) a.fresh.context y
     (Called request [] a.found) (Answered told (context_answer a.fresh.context request [] a.found).bytes) ≡ fresh_segment [] →
     IsFresh then_limited (a.since ++ Called request [] a.found ∷ [])
 unfolding solo_step answer
-call_fresh start new limited then_limited request told y a next h q o idle l s =
+call_fresh start new limited then_limited request told y a next h q f o idle l s =
     let c = a.fresh.context in
     let e : SoloEvent = Called request [] a.found in
     let bytes = (context_answer c request [] a.found).bytes in
-    fresh_step limited then_limited a.since e y a.fresh next (ap (λ r. is_honest e (Answered r bytes)) a.reply ∙ h) q refl (ap (λ r. handed_by e (Answered r bytes)) a.reply ∙ o) idle l (ap (λ r. segment_of_step the_coder (fresh_segment []) c y e (Answered r bytes)) a.reply ∙ s)
+    fresh_step limited then_limited a.since e y a.fresh next (ap (λ r. is_honest e (Answered r bytes)) a.reply ∙ h) q (ap (λ r. returns_error request r) a.reply ∙ f) refl (ap (λ r. handed_by e (Answered r bytes)) a.reply ∙ o) idle l (ap (λ r. segment_of_step the_coder (fresh_segment []) c y e (Answered r bytes)) a.reply ∙ s)
 
 opened_call : (start new : List SoloEvent) (limited then_limited : Bool) (request : Call) (told : Reply) → (a : IsAskedFresh start limited request told new) → IsFresh then_limited (a.since ++ Called request [] a.found ∷ []) → IsOpened start then_limited new
 opened_call start new limited then_limited request told a w =
@@ -273,7 +273,7 @@ subscribes_opened start old new limited before after event told w call =
     (λ (b : told ≢ Blocked). let a = asked_fresh start old new limited before after request told b refl w call in let c = a.fresh.context in
     let y = subscribed c event a.fresh.idle (effect_then c request [] a.found told (ordered_at a.since c a.fresh.stands) a.reply) in
     opened_call start new limited limited request told a
-    (call_fresh start new limited limited request told y.0 a y.1 refl refl refl y.2 (λ t. ap (λ z. z.out.size) y.3 ∙ a.fresh.limit t)
+    (call_fresh start new limited limited request told y.0 a y.1 refl refl refl refl y.2 (λ t. ap (λ z. z.out.size) y.3 ∙ a.fresh.limit t)
     (fresh_grown c y.0 (Called request [] a.found) (Answered told (context_answer c request [] a.found).bytes) refl refl refl
     (y.4 ∙ a.fresh.idle.retired)))) (blocked_or_not told)
 
@@ -320,7 +320,7 @@ limits_opened start old new limited before after want format size w call =
     let idle : IsIdle x = record { kind = i.kind; geometry = refl; ready = i.ready; job = i.job; done = i.done; unbegun = i.unbegun; captures = i.captures; retired = i.retired; running = i.running; phase = i.phase; mark = i.mark } in
     opened_call start new limited true request (Fmt format) a
     (call_fresh start new limited true request (Fmt format) x a (set_is c want format a.found i.kind a.reply ∙ ap (λ (z : Context). Some z) same)
-    refl refl refl idle (λ t. limit_is want.size (frame_room C422 (width_for C420 want.width) (height_for C420 want.height)) size)
+    refl refl refl refl idle (λ t. limit_is want.size (frame_room C422 (width_for C420 want.width) (height_for C420 want.height)) size)
     (fresh_grown c x (Called request [] a.found) (Answered (Fmt format) (context_answer c request [] a.found).bytes) (ap is_enc i.kind) refl refl
     i.retired))
 
@@ -362,7 +362,7 @@ buffers_opened start old new limited before after count number w call =
     let i = a.fresh.idle in
     let y = buffers_are c count number i (effect_then c request [] a.found told (ordered_at a.since c a.fresh.stands) a.reply) in
     let handed = (context_answer c request [] a.found).bytes in
-    opened_call start new limited limited request told a (call_fresh start new limited limited request told y.0 a y.1 refl refl refl y.2
+    opened_call start new limited limited request told a (call_fresh start new limited limited request told y.0 a y.1 refl refl refl refl y.2
     (λ t. ap (λ z. z.out.size) y.3 ∙ a.fresh.limit t) (begins_anew the_coder (fresh_segment []) c y.0 request [] a.found told handed
     (ap (λ (t : Kind). is_dec t || is_enc t) i.kind) ∙ ap fresh_segment y.2.ready))
 
@@ -403,7 +403,7 @@ stream_begins start old new before after w call =
     let idle : IsIdle x = record { kind = i.kind; geometry = i.geometry; ready = i.ready; job = i.job; done = i.done; unbegun = i.unbegun; captures = i.captures; retired = i.retired; running = i.running; phase = i.phase; mark = i.mark } in
     let next = on_is c a.found a.reply ∙ ap (λ (z : Context). Some z) same in
     let e : SoloEvent = Called request [] a.found in
-    let fresh = call_fresh start new true true request Done x a next refl refl refl idle (λ t. a.fresh.limit t) (fresh_grown c x e (Answered Done (context_answer c request [] a.found).bytes) refl refl refl i.retired) in
+    let fresh = call_fresh start new true true request Done x a next refl refl refl refl idle (λ t. a.fresh.limit t) (fresh_grown c x e (Answered Done (context_answer c request [] a.found).bytes) refl refl refl i.retired) in
     let there : slot_after (a.since ++ e ∷ []) ≡ Some x = slot_more a.since e ∙ (ap (λ (z : Slot). (solo_step the_coder z e).slot) a.fresh.stands ∙ next) in
     let stands : Some fresh.context ≡ Some x = sym fresh.stands ∙ there in
     let found : fresh.context ≡ x = cc in
@@ -437,7 +437,7 @@ opens start new before after closed call =
       fresh = record {
         context = fresh_context Dec;
         stands = slot_more call.jobs e ∙ (ap (λ (s : Slot). (solo_step the_coder s e).slot) jobs.stands ∙ next);
-        client = client_more call.jobs e (ap (λ (s : Slot). is_honest e (solo_step the_coder s e).told) jobs.stands) refl jobs.client;
+        client = client_more call.jobs e (ap (λ (s : Slot). is_honest e (solo_step the_coder s e).told) jobs.stands) refl (ap (λ (s : Slot). shows_fault e (solo_step the_coder s e).told) jobs.stands) jobs.client;
         idle = record { kind = refl; geometry = refl; ready = refl; job = refl; done = refl; unbegun = refl; captures = refl; retired = refl; running = refl; phase = refl; mark = refl };
         limit = λ (p : false ≡ true). absurd (false≢true p);
         segment = segment_more the_coder (fresh_segment []) None call.jobs e ∙ ap (λ (s : Slot). segment_step the_coder (segment_of the_coder call.jobs) s e) jobs.stands;

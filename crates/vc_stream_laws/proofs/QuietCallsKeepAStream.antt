@@ -14,7 +14,7 @@ use Rattle.vc_model.specs.Coder.{the_coder}
 use Rattle.vc_model.specs.Context.{Context, Slot, with_queue, sizeimage}
 use Rattle.vc_model.specs.Answer.{answer, context_answer, unless, if_found, answered, after_new_buffers}
 use Rattle.vc_model.specs.Drains.{takes_a_buffer}
-use Rattle.vc_model.specs.Handed.{handed_by_call}
+use Rattle.vc_model.specs.Handed.{handed_by_call, returns_error}
 use Rattle.vc_model.specs.Phases.{is_over, is_stopped_by_drain}
 use Rattle.vc_model.specs.Places.{has_error, is_honest_call}
 use Rattle.vc_model.specs.Solo.{SoloEvent, Called, Answered, solo_step}
@@ -41,6 +41,7 @@ use Rattle.vc_stream_laws.proofs.JobsKeepAStream.{spoilt_step}
 pub record IsCallNext (g f : StreamSoFar) (c y : Context) (request : Call) (bytes : List ℕ) (told : Reply) : Type 0 where
   pub honest : is_honest_call request bytes told ≡ true
   pub unasked : call_asks_format request ≡ false
+  pub unshown : returns_error request told ≡ false
   pub resets : call_resets c request told ≡ false
   pub decodes : IsDecoder g y
   pub geometry : y.geometry ≡ c.geometry
@@ -64,6 +65,7 @@ call_next f g seg c y request bytes handed found told b q n =
       honest = n.honest;
       unasked = n.unasked;
       faultless = refl;
+      unshown = n.unshown;
       decodes = n.decodes;
       begins = subst (λ (z : Segment). BeginsUnknown z.first y.geometry) (sym same) (subst (BeginsUnknown seg.first) (sym n.geometry) b);
       waits = subst (λ (z : Segment). IsWaiting g.queued z.bytes y.out) (sym same) (n.waits seg.bytes q);
@@ -104,6 +106,11 @@ pub calm_of_quiet : (request : Call) (told : Reply) → (is_refusal told || is_q
 unfolding is_calm
 calm_of_quiet (DqBuf Out block) told q = or_true (is_refusal told)
 calm_of_quiet request told q = q
+
+-- quiet calls, and those that are refused, take no OUTPUT buffer
+pub quiet_hides : (request : Call) (told : Reply) → (is_refusal told || is_quiet request) ≡ true → returns_error request told ≡ false
+quiet_hides (DqBuf Out block) (Taken index used flags seq stamp) q = absurd (false≢true q)
+quiet_hides request told q = refl
 
 pub calm_source : (block : Bool) (told : Reply) → (is_refusal told || is_calm (DqBuf Out block)) ≡ true
 unfolding is_calm
@@ -272,16 +279,17 @@ drops_none c (ReqBufs Cap count) bytes found told q o reply = new_drops c count 
 drops_none c request bytes found told q o reply = calm_drops c request told q refl
 
 pub calm_good : (f : StreamSoFar) (since : List SoloEvent) (request : Call) (bytes : List ℕ) (found : Bool) (told : Reply) →
-    (is_refusal told || is_calm request) ≡ true → call_asks_format request ≡ false → (w : IsGood f since) →
-    (context_answer w.context request bytes found).reply ≡ told → IsGood f (since ++ Called request bytes found ∷ [])
+    (is_refusal told || is_calm request) ≡ true → call_asks_format request ≡ false → returns_error request told ≡ false →
+    (w : IsGood f since) → (context_answer w.context request bytes found).reply ≡ told → IsGood f (since ++ Called request bytes found ∷ [])
 unfolding CalmSlot
-calm_good f since request bytes found told q a w reply =
+calm_good f since request bytes found told q a h w reply =
     let c = w.context in
     let o = ordered_at since c w.stands in
     let s = calm_effect f c w.decodes q (effect_then c request bytes found told o reply) in
     call_good f f since request bytes found told s.0 w s.1 reply (record {
       honest = calm_honest request bytes told q;
       unasked = a;
+      unshown = h;
       resets = s.2.resets;
       decodes = s.2.decodes;
       geometry = s.2.geometry;
@@ -332,9 +340,9 @@ left_done c q (rests_cap a o) = (_, refl, refl)
 left_done c q (sets_mark y a i b k d u) = settled_done c _ y refl u
 left_done c q (starts y a i b e u) = settled_done c _ y refl u
 
-pub call_spoilt : (since : List SoloEvent) (request : Call) (bytes : List ℕ) (found : Bool) (told : Reply) → (is_refusal told || leaves_sources request) ≡ true → (w : IsSpoilt since) → (context_answer w.context request bytes found).reply ≡ told → IsSpoilt (since ++ Called request bytes found ∷ [])
+pub call_spoilt : (since : List SoloEvent) (request : Call) (bytes : List ℕ) (found : Bool) (told : Reply) → (is_refusal told || leaves_sources request) ≡ true → returns_error request told ≡ false → (w : IsSpoilt since) → (context_answer w.context request bytes found).reply ≡ told → IsSpoilt (since ++ Called request bytes found ∷ [])
 unfolding solo_step answer SameDone
-call_spoilt since request bytes found told q w reply =
+call_spoilt since request bytes found told q h w reply =
     let c = w.context in
     let s = left_done c q (effect_then c request bytes found told (ordered_at since c w.stands) reply) in
-    spoilt_step since (Called request bytes found) s.0 w s.1 (ap has_failed s.2 ∙ w.failed)
+    spoilt_step since (Called request bytes found) s.0 w s.1 (ap has_failed s.2 ∙ w.failed) (ap (λ r. returns_error request r) reply ∙ h)

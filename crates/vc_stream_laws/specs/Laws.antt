@@ -22,7 +22,7 @@ use Rattle.vc_laws.specs.FirstFormats.{call_asks_format}
 use Rattle.vc_queue.specs.Holds.{HoldState}
 use Rattle.vc_context.specs.Payloads.{handed_over}
 use Rattle.vc_port.specs.Payloads.{slot_after, bytes_out, AreOfJobs, IsCallOn, faulty_finishes}
-use Rattle.vc_stream_laws.specs.Streams.{StreamSoFar, stream_at_start, with_queued, not_known, some_stop, stop_by_change, IsStream, IsUnspoilt, IsOpened, IsDecoded}
+use Rattle.vc_stream_laws.specs.Streams.{StreamSoFar, stream_at_start, with_queued, not_known, some_stop, stop_by_change, IsStream, IsUnspoilt, IsOpened, IsUnshown, IsDecoded}
 
 -- Opening
 
@@ -172,6 +172,10 @@ pub record HandsFrontOut (start : List SoloEvent) (f : StreamSoFar) (events : Li
 abbrev pub FrontIsHandedOut : Type 0
 FrontIsHandedOut =
     (start events : List SoloEvent) (f : StreamSoFar) (input : List ℕ) → IsUnspoilt start f events → IsPrefix f.queued input → HandsFrontOut start f events input
+
+-- While there is a stream, no OUTPUT buffer with ERROR was dequeued.
+abbrev pub StreamsShowNoFault : Type 0
+StreamsShowNoFault = (start events : List SoloEvent) (f : StreamSoFar) → IsStream start f events → IsUnshown start events
 
 -- The output of an input without results is empty, and it has no damage.
 pub record HasNoOutput (input : List ℕ) : Type 0 where

@@ -12,7 +12,8 @@ use Rattle.vc_model.specs.Coder.{the_coder}
 use Rattle.vc_model.specs.Context.{Context, Running, drain, change, run, stopped, is_stopped}
 use Rattle.vc_model.specs.Phases.{is_over, is_stopped_by_drain}
 use Rattle.vc_model.specs.Places.{AreHonest, has_error}
-use Rattle.vc_model.specs.Solo.{SoloEvent}
+use Rattle.vc_model.specs.Handed.{shows_fault}
+use Rattle.vc_model.specs.Solo.{SoloEvent, SoloEntry, solo_run}
 use Rattle.vc_laws.specs.Segments.{Segment, fresh_segment, segment_of, whats}
 use Rattle.vc_laws.specs.FirstFormats.{asked_format}
 use Rattle.vc_laws.specs.Taking.{bytes_of}
@@ -21,6 +22,10 @@ use Rattle.vc_port.specs.Payloads.{slot_after, told_at, bytes_out, good_finishes
 -- one of the buffers has the flag ERROR
 abbrev pub has_failed : List Buffer → Bool
 has_failed bs = list_any (λ (b : Buffer). has_error b.flags) bs
+
+-- one of the entries is an OUTPUT buffer with ERROR that came back
+abbrev pub is_shown : List SoloEntry → Bool
+is_shown xs = list_any (λ (x : SoloEntry). shows_fault x.event x.told) xs
 
 -- What a client knows of the phase: nothing, that the context stopped, for DqBuf on CAPTURE answered EPIPE, or that it stopped
 -- by a change of the resolution. It knows so until it stops CAPTURE.
@@ -101,10 +106,12 @@ pub record IsTaken (f : StreamSoFar) (seg : Segment) (done : List Buffer) : Type
   pub handed : f.handed ≡ bytes_of taken
   pub damaged : f.damaged ≡ has_failed taken
 
--- what a client of a slot did since it was closed: each QBuf carries its bytes, and no format of CAPTURE was asked for
+-- What a client of a slot did since it was closed: each QBuf carries its bytes, and no format of CAPTURE was asked for. No
+-- OUTPUT buffer with ERROR came back to it.
 pub record IsPlainClient (since : List SoloEvent) : Type 0 where
   pub honest : AreHonest (told_at since)
   pub unasked : asked_format the_coder since ≡ false
+  pub unshown : is_shown (told_at since) ≡ false
 
 -- Streams
 
@@ -122,12 +129,13 @@ pub record IsGood (f : StreamSoFar) (since : List SoloEvent) : Type 0 where
   pub unfailed : faulty_finishes since ≡ 0
   pub complete : is_over context.phase ≡ true → whats (segment_of the_coder since) ≡ input_results f.queued
 
--- A job failed since then, and an OUTPUT buffer with ERROR is done.
+-- A job failed since then, and an OUTPUT buffer with ERROR is done. None came back.
 pub record IsSpoilt (since : List SoloEvent) : Type 0 where
   pub context : Context
   pub stands : slot_after since ≡ Some context
   pub failed : has_failed context.out.done ≡ true
   pub faulty : 0 < faulty_finishes since
+  pub unshown : is_shown (told_at since) ≡ false
 
 -- The events of the slot go on from others, after which it was closed, and either no job failed since, or it shows.
 pub record IsStream (start : List SoloEvent) (f : StreamSoFar) (events : List SoloEvent) : Type 0 where
@@ -179,10 +187,17 @@ pub record IsOpened (start : List SoloEvent) (limited : Bool) (events : List Sol
 
 -- Ends
 
+-- Since the start no OUTPUT buffer with ERROR was dequeued.
+pub record IsUnshown (start events : List SoloEvent) : Type 0 where
+  pub since : List SoloEvent
+  pub goes_on : events ≡ start ++ since
+  pub unshown : is_shown (solo_run the_coder (slot_after start) since) ≡ false
+
 -- All of what was queued was decoded: what was handed out is its output, a failed CAPTURE buffer was exactly where it has
--- damage, and as many jobs were finished without a fault as it has pictures and damages.
+-- damage, and as many jobs were finished without a fault as it has pictures and damages. No OUTPUT buffer with ERROR came back.
 pub record IsDecoded (start : List SoloEvent) (f : StreamSoFar) (events : List SoloEvent) : Type 0 where
   pub handed : bytes_out events ≡ bytes_out start ++ f.handed
   pub output : f.handed ≡ decode_output f.queued
   pub damaged : f.damaged ≡ list_any (λ (r : FrameResult). is_damage r.kind) (input_results f.queued)
   pub finishes : good_finishes start + result_count f.queued ≤ good_finishes events
+  pub unshown : IsUnshown start events

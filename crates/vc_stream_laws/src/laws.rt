@@ -1,7 +1,7 @@
 //! Laws over the coded stream of one decoder, call by call. Their subjects are "Decoding", "Drain" and "Dynamic Resolution Change"
 //! of the memory-to-memory stateful video decoder interface in the Linux userspace API documentation.
 
-ghost use Rattle.vc_stream_laws.specs.Laws.{BuffersOpened, BytesAreQueued, CaptureStarts, CaptureStops, ChangesAreTold, DrainBegins, DrainIsOver, FailedSourcesTell, FrontIsHandedOut, JobsKeep, LimitsOpened, NoResultsNoOutput, NoneLeftTells, Opens, PicturesAreTaken, QuietCallsKeep, SourcesComeBack, StopsAreTold, StopsBeforeEnd, StreamBegins, SubscribesOpened, SubscriptionsAreDone};
+ghost use Rattle.vc_stream_laws.specs.Laws.{BuffersOpened, BytesAreQueued, CaptureStarts, CaptureStops, ChangesAreTold, DrainBegins, DrainIsOver, FailedSourcesTell, FrontIsHandedOut, JobsKeep, LimitsOpened, NoResultsNoOutput, NoneLeftTells, Opens, PicturesAreTaken, QuietCallsKeep, SourcesComeBack, StopsAreTold, StopsBeforeEnd, StreamBegins, StreamsShowNoFault, SubscribesOpened, SubscriptionsAreDone};
 
 /// Open gives a decoder to which nothing happened.
 pub fn opens()
@@ -106,6 +106,11 @@ pub fn drain_is_over()
 /// Where no job failed, what was handed out is a prefix of the output of what was queued.
 pub fn front_is_handed_out()
     ensures { FrontIsHandedOut }
+{}
+
+/// While there is a stream, no OUTPUT buffer with ERROR came back.
+pub fn streams_show_no_fault()
+    ensures { StreamsShowNoFault }
 {}
 
 /// An input without results has an empty output, and no damage.

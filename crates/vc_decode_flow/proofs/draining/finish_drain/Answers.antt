@@ -1,4 +1,4 @@
-use Rattle.std.proofs.Common.{◌≤◌, arith, true, Bool, sym, subst}
+use Rattle.std.proofs.Common.{◌∙◌, refl, true, Bool, sym, subst}
 use Rattle.vc_stream_laws.specs.Streams.{not_known}
 use Rattle.vc_decode_flow.specs.Steps.{IsGoing, HasStopped}
 use Rattle.vc_decode_flow.proofs.TakenPicturesAreThere.{not_true, not_false}
@@ -6,7 +6,7 @@ use Rattle.vc_decode_flow.proofs.InputIsDecoded.{cut_stopped}
 use Rattle.vc_decode_flow.proofs.draining.finish_drain.Goals as goal
 
 pub loop-init : goal.loop-init
-loop-init g c = (c.requires.ready, g.met.P.Port.follows_self _, λ start queued first w. w, omega arith)
+loop-init g c = (c.requires.ready, g.met.P.Port.follows_self _, λ start queued first w. w, refl)
 
 pub returns-in-Err-clause-cut : goal.returns-in-Err-clause-cut
 returns-in-Err-clause-cut g c = λ start queued first w.
@@ -19,15 +19,13 @@ returns-in-Err-clause-engine g c = λ start queued first w e.
 pub loop-preserved-then-not-round : goal.loop-preserved-then-not-round
 loop-preserved-then-not-round g c =
     let i = c.loop.invariant in
-    let o = c.go_round.ensures in
-    let a = i.3 in
-    let b = o.later in (
+    let o = c.go_round.ensures in (
       o.ready,
       g.met.P.Port.follows_on _ _ _ i.1 o.follows,
       λ start queued first w. subst (λ (b : Bool). IsGoing start queued b true not_known first (g.K.Sink.written c.go_round.new.sink)
           (g.P.PayloadPort.events c.go_round.new.port)) (sym c.is_either_damaged-damaged.ensures)
           (c.in-Ok.ensures.goes start queued _ true first (i.2 start queued first w) (not_true _ c.if-not-round.true)),
-      omega (arith, a, b),
+      c.in-Ok.ensures.quiet ∙ i.3,
     )
 
 pub returns-in-Ok-true-clause-drained : goal.returns-in-Ok-true-clause-drained
@@ -43,9 +41,7 @@ returns-in-Ok-true-clause-engine g c = λ start queued first w e. absurd (cc)
 pub loop-preserved : goal.loop-preserved
 loop-preserved g c =
     let i = c.loop.invariant in
-    let o = c.go_round.ensures in
-    let a = i.3 in
-    let b = o.later in (
+    let o = c.go_round.ensures in (
       c.pass_stop.ensures.ready,
       g.met.P.Port.follows_on _ _ _ i.1 (g.met.P.Port.follows_on _ _ _ o.follows c.pass_stop.ensures.follows),
       λ start queued first w. c.in-Ok-false.ensures.goes start queued _ first _
@@ -53,7 +49,7 @@ loop-preserved g c =
           (g.P.PayloadPort.events c.go_round.new.port)) (sym c.is_either_damaged-damaged.ensures)
           (c.in-Ok.ensures.stopped start queued _ true first (i.2 start queued first w) (not_false _ c.if-not-round.false)))
           c.in-Ok-false.field-0-test,
-      omega (arith, a, b),
+      c.in-Ok.ensures.quiet ∙ i.3,
     )
 
 pub returns-in-Err-pass_stop-clause-cut : goal.returns-in-Err-pass_stop-clause-cut

@@ -1,8 +1,8 @@
-use Rattle.std.proofs.Common.{ℕ, List, Option, ◌≡◌, ◌≤◌, false}
+use Rattle.std.proofs.Common.{ℕ, List, Option, ◌≡◌, false}
 use Rattle.vc_model.specs.Solo.{SoloEvent}
 use Rattle.vc_port.specs.Payloads.{bytes_out}
 use Rattle.vc_stream_laws.specs.Streams.{StreamSoFar, IsStream}
-use Rattle.vc_decode_flow.specs.Steps.{IsRead, HasFed}
+use Rattle.vc_decode_flow.specs.Steps.{IsRead, IsCounted, HasFed}
 use Rattle.vc_decode_flow.proofs.feeding.feed.Given as goal
 
 abbrev pub invariant-loop-index : goal.invariant-loop-index
@@ -14,4 +14,6 @@ invariant-loop-index g l =
     l.initial.reading.ended f.queued → HasFed start f left (g.S.Source.left l.source) l.reading.coverage l.reading.ended
     (g.P.PayloadPort.events l.port))
     × (bytes_out (g.P.PayloadPort.events l.port) ≡ bytes_out (g.P.PayloadPort.events l.initial.port))
-    × (g.S.Source.faults l.initial.source ≤ g.S.Source.faults l.source)
+    × ((left : Option (List ℕ)) → IsCounted left (g.S.Source.left l.initial.source) l.initial.reading.coverage →
+    IsCounted left (g.S.Source.left l.source) l.reading.coverage)
+    × (g.S.Source.faults l.source ≡ g.S.Source.faults l.initial.source)

@@ -1,6 +1,6 @@
-use Rattle.std.proofs.Common.{ℕ, List, Option, ◌≡◌, ◌≤◌, false}
+use Rattle.std.proofs.Common.{ℕ, List, Option, ◌≡◌, false}
 use Rattle.vc_model.specs.Solo.{SoloEvent}
-use Rattle.vc_decode_flow.specs.Steps.{IsDecoding}
+use Rattle.vc_decode_flow.specs.Steps.{IsCounted, IsDecoding}
 use Rattle.vc_decode_flow.proofs.flowing.decode_input.Given as goal
 
 abbrev pub invariant-loop : goal.invariant-loop
@@ -11,5 +11,7 @@ invariant-loop g l =
     (g.S.Source.left l.initial.source) l.initial.reading.coverage l.initial.reading.ended (g.P.PayloadPort.events l.initial.port) →
     IsDecoding start l.damaged first (g.K.Sink.written l.sink) left (g.S.Source.left l.source) l.reading.coverage l.reading.ended
     (g.P.PayloadPort.events l.port))
-    × (g.K.Sink.faults l.initial.sink ≤ g.K.Sink.faults l.sink)
-    × (g.S.Source.faults l.initial.source ≤ g.S.Source.faults l.source)
+    × (g.K.Sink.faults l.sink ≡ g.K.Sink.faults l.initial.sink)
+    × (g.S.Source.faults l.source ≡ g.S.Source.faults l.initial.source)
+    × ((left : Option (List ℕ)) → IsCounted left (g.S.Source.left l.initial.source) l.initial.reading.coverage →
+    IsCounted left (g.S.Source.left l.source) l.reading.coverage)

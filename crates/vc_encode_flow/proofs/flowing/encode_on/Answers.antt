@@ -1,5 +1,6 @@
 use Rattle.std.proofs.Common.{true, false, refl}
 use Rattle.vc_flow.proofs.InputsAreBounded.{long_of_just}
+use Rattle.vc_flow.proofs.FaultsAreHidden.{hides_both}
 use Rattle.vc_flow.proofs.FaultsShow.{has_failed_later}
 use Rattle.vc_encode_flow.proofs.EndsAreDefinedOutput.{is_written, is_front, came_through, on_through}
 use Rattle.vc_encode_flow.proofs.flowing.encode_on.Goals as goal
@@ -40,3 +41,11 @@ returns-clause-engine g c = λ e.
 pub returns-clause-shown : goal.returns-clause-shown
 returns-clause-shown g c = λ e.
     (has_failed_later _ _ _ (c.run_flow-ended.ensures.engine (c.end_of.ensures.engine e)) c.close_slot.ensures.goes_on).shows
+
+pub returns-clause-whole_unshown : goal.returns-clause-whole_unshown
+returns-clause-whole_unshown g c = λ e.
+    hides_both _ _ _ (came_through _ _ true (c.end_of.ensures.whole e) c.run_flow-ended.ensures.through).hidden c.close_slot.ensures.hides
+
+pub returns-clause-short_unshown : goal.returns-clause-short_unshown
+returns-clause-short_unshown g c = λ e.
+    hides_both _ _ _ (came_through _ _ false (c.end_of.ensures.short e) c.run_flow-ended.ensures.through).hidden c.close_slot.ensures.hides
