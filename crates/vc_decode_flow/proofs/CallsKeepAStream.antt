@@ -18,10 +18,11 @@ use Rattle.vc_queue.specs.Answers.{queued_bytes}
 use Rattle.vc_port.specs.Payloads.{bytes_out, IsCallOn}
 use Rattle.vc_port.proofs.CallsHandOut.{calls_hand_out}
 use Rattle.vc_flow.specs.Calls.{HandedFirst}
+use Rattle.vc_flow.specs.Faults.{HidesFault}
 use Rattle.vc_flow.specs.Calls.{QueuesSource}
 use Rattle.vc_flow.proofs.CallsHandOut.{bytes_stay}
 use Rattle.vc_laws.specs.FirstFormats.{call_asks_format}
-use Rattle.vc_stream_laws.specs.Streams.{StreamSoFar, with_queued, some_stop, IsStream, IsUnspoilt}
+use Rattle.vc_stream_laws.specs.Streams.{StreamSoFar, with_queued, some_stop, IsStream, IsUnspoilt, IsUnshown}
 use Rattle.vc_stream_laws.specs.Laws.{is_refusal, is_quiet}
 use Rattle.vc_stream_laws.proofs.CallsOfAClient.{quiet_calls_keep, bytes_are_queued, none_left_tells, stops_are_told, changes_are_told}
 use Rattle.vc_decode_flow.specs.Steps.{KeepsCaptures, with_stop, with_change}
@@ -86,3 +87,8 @@ nothing_handed old new before after Out block told errno e c =
     bytes_stay old new before after (DqBuf Out block) told c refl
 nothing_handed old new before after Cap block told errno e c =
     bytes_stay old new before after (DqBuf Cap block) (Refused errno) (told_as old new before after (DqBuf Cap block) told (Refused errno) e c) refl
+
+-- no OUTPUT buffer with ERROR came back
+pub hides : (start events : List SoloEvent) → IsUnshown start events → HidesFault start events
+hides start events u =
+    record { since = u.since; goes_on = u.goes_on; hidden = u.unshown }

@@ -38,6 +38,7 @@ through start events damaged leaves first written left left_now c w l =
       wrote = w.drained.wrote;
       handed = w.drained.handed;
       finishes = w.drained.finishes;
+      unshown = w.drained.unshown;
     }
 
 -- The input was read to its end

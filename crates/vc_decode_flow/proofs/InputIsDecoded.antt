@@ -14,10 +14,11 @@ use Rattle.vc_coverage.specs.Covering.{CoverageState, HasRead}
 use Rattle.vc_coverage.specs.KeyHeaders.{has_key_header}
 use Rattle.vc_coverage.proofs.NothingWithoutAKeyHeader.{no_results_without_key_header}
 use Rattle.vc_stream_laws.specs.Streams.{StreamSoFar, stream_at_start, not_known, some_stop, stop_by_change, IsStream, IsDecoded}
-use Rattle.vc_stream_laws.proofs.CallsOfAClient.{stops_before_end}
+use Rattle.vc_stream_laws.proofs.CallsOfAClient.{stops_before_end, streams_show_no_fault}
 use Rattle.vc_stream_laws.proofs.OneEventMore.{good_both}
 use Rattle.vc_decode_flow.specs.Steps.{IsRead, HasFed, with_captures, with_end, IsAt, StopsEarly, probed_stream, IsProbing, stream_of, IsGoing, HasStopped, IsDecoding, IsCutShort}
 use Rattle.vc_decode_flow.specs.Endings.{IsDrained, IsAllWritten}
+use Rattle.vc_decode_flow.proofs.CallsKeepAStream.{hides}
 use Rattle.vc_decode_flow.proofs.PiecesAreRead.{begins_read, begins_none}
 use Rattle.vc_flow.proofs.CallsHandOut.{first_stays}
 use Rattle.vc_decode_flow.proofs.RoundsWritePictures.{stopped_at, at_later}
@@ -136,6 +137,7 @@ drained start old new queued damaged first written h d =
       handed = d.handed ∙ ap (λ (l : List ℕ). bytes_out start ++ l) d.output;
       damage = d.damaged;
       finishes = d.finishes;
+      unshown = hides start new d.unshown;
     }
 
 pub all_written : (start old new : List SoloEvent) (damaged damaged_now : Bool) (first written written_now left left_now : Option (List ℕ))
@@ -182,6 +184,7 @@ nothing_to_write start events first left left_now c ended e s h =
         handed = s.handed ∙ (sym (append-nil (bytes_out start)) ∙ ap (λ (l : List ℕ). bytes_out start ++ l) (sym output));
         damage = no_damage s.queued none;
         finishes = omega (arith, count, later);
+        unshown = hides start events (streams_show_no_fault start events (probed_stream s.queued) s.stream);
       };
     }
 

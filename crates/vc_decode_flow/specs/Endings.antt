@@ -8,6 +8,7 @@ use Rattle.vc_model.specs.Solo.{SoloEvent}
 use Rattle.vc_port.specs.Payloads.{bytes_out, good_finishes}
 use Rattle.vc_coverage.specs.Covering.{CoverageState, HasRead}
 use Rattle.vc_flow.specs.Calls.{HandedFirst}
+use Rattle.vc_flow.specs.Faults.{HidesFault}
 
 -- the bytes are the output that is defined for the input, where the input is known
 abbrev pub IsOutput : Option (List ℕ) → List ℕ → Type 0
@@ -46,12 +47,13 @@ pub record IsFrontWritten (left written written_now : Option (List ℕ)) (start 
   pub output : IsFrontOfOutput left bytes
   pub handed : HandedFirst start bytes events
 
--- All that was queued was decoded, and its pictures were handed out and written.
+-- All that was queued was decoded, and its pictures were handed out and written. No OUTPUT buffer with ERROR came back.
 pub record IsDrained (start : List SoloEvent) (queued : List ℕ) (damaged : Bool) (first written : Option (List ℕ)) (events : List SoloEvent) : Type 0 where
   pub wrote : Appends first written (decode_output queued)
   pub handed : bytes_out events ≡ bytes_out start ++ decode_output queued
   pub damage : damaged ≡ list_any (λ (r : FrameResult). is_damage r.kind) (input_results queued)
   pub finishes : good_finishes start + result_count queued ≤ good_finishes events
+  pub unshown : HidesFault start events
 
 -- The input was read to its end, all of it was decoded, and what it has of pictures was handed out and written. A frame was
 -- damaged or not.
@@ -71,3 +73,4 @@ pub record IsThrough (start : List SoloEvent) (damaged : Bool) (first written le
   pub wrote : Appends first written (decode_output input)
   pub handed : bytes_out events ≡ bytes_out start ++ decode_output input
   pub finishes : good_finishes start + result_count input ≤ good_finishes events
+  pub unshown : HidesFault start events

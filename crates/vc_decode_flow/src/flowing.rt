@@ -3,7 +3,7 @@
 ghost use Rattle.std.specs.Prelude.{◌≡◌, ◌≢◌, ◌<◌, ◌≤◌, true, false, None, Ok, Err, OnOk, OnErr, IsErrOf};
 ghost use Rattle.vc_base.specs.Counts.{Rose};
 ghost use Rattle.vc_port.specs.Payloads.{slot_after, faulty_finishes};
-ghost use Rattle.vc_flow.specs.Faults.{HasFailed, ShowsFault};
+ghost use Rattle.vc_flow.specs.Faults.{HasFailed, ShowsFault, HidesFault};
 ghost use Rattle.vc_flow.specs.Inputs.{IsLong, IsBelow, IsJustLong};
 ghost use Rattle.vc_decode_flow.specs.Steps.{IsCutShort};
 ghost use Rattle.vc_decode_flow.specs.Endings.{IsFrontWritten};
@@ -222,6 +222,8 @@ pub fn decode_on<R: Wait, P: PayloadPort, S: Source, K: Sink>(
     ensures write { result ≡ FlowEnd.WriteFault → Rose (K.faults sink.old) (K.faults sink.new) }
     ensures engine { result ≡ FlowEnd.EngineFault → faulty_finishes (P.events port.old) < faulty_finishes (P.events port.new) }
     ensures shown { result ≡ FlowEnd.EngineFault → ShowsFault (P.events port.old) (P.events port.new) }
+    ensures whole_unshown { result ≡ FlowEnd.Whole → HidesFault (P.events port.old) (P.events port.new) }
+    ensures damaged_unshown { result ≡ FlowEnd.Damaged → HidesFault (P.events port.old) (P.events port.new) }
     ensures long { result ≡ FlowEnd.TooLong → IsLong (S.left source.old) (S.left source.new) }
     ensures most { result ≡ FlowEnd.TooLong → IsJustLong 65536 (S.left source.old) (S.left source.new) }
     ensures below { result ≢ FlowEnd.TooLong → IsBelow (S.left source.old) (S.left source.new) }

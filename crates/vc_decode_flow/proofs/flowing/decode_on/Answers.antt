@@ -1,5 +1,6 @@
 use Rattle.std.proofs.Common.{true, false}
 use Rattle.vc_flow.proofs.InputsAreBounded.{long_of_just}
+use Rattle.vc_flow.proofs.FaultsAreHidden.{hides_both}
 use Rattle.vc_flow.proofs.FaultsShow.{has_failed_later}
 use Rattle.vc_decode_flow.proofs.EndsAreDefinedOutput.{is_written, is_front, came_through, on_through}
 use Rattle.vc_decode_flow.proofs.flowing.decode_on.Goals as goal
@@ -40,3 +41,11 @@ returns-clause-most g c = λ e. c.run_flow-ended.ensures.long (c.end_of.ensures.
 
 pub returns-clause-below : goal.returns-clause-below
 returns-clause-below g c = λ n. c.run_flow-ended.ensures.below (λ e. n (c.end_of.ensures.too_long e))
+
+pub returns-clause-whole_unshown : goal.returns-clause-whole_unshown
+returns-clause-whole_unshown g c = λ e.
+    hides_both _ _ _ (came_through _ _ false (c.end_of.ensures.whole e) c.run_flow-ended.ensures.through).unshown c.close_slot.ensures.hides
+
+pub returns-clause-damaged_unshown : goal.returns-clause-damaged_unshown
+returns-clause-damaged_unshown g c = λ e.
+    hides_both _ _ _ (came_through _ _ true (c.end_of.ensures.damaged e) c.run_flow-ended.ensures.through).unshown c.close_slot.ensures.hides
