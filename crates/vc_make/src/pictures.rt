@@ -35,6 +35,7 @@ fn write_picture<K: Sink>(
     ensures whole { OnOk result (Appends (K.written sink.old) (K.written sink.new) (picture_bytes format.now picture number)) }
     ensures front { OnErr result (AppendsFront (K.written sink.old) (K.written sink.new) (picture_bytes format.now picture number)) }
     ensures cause { HasCause (K.faults sink.old) (K.faults sink.new) result }
+    ensures quiet { OnOk result (K.faults sink.new ≡ K.faults sink.old) }
 {
     fill(buffer, format, picture, number);
     write_whole(sink, buffer)
@@ -62,6 +63,7 @@ pub fn write_pictures<K: Sink>(
     ensures memory { IsErrOf result MakeStop.NoMemory → sink.new ≡ sink.old }
     ensures write { IsErrOf result MakeStop.WriteFault → Rose (K.faults sink.old) (K.faults sink.new) }
     ensures later { K.faults sink.old ≤ K.faults sink.new }
+    ensures quiet { OnOk result (K.faults sink.new ≡ K.faults sink.old) }
 {
     let Ok(mut bytes) = vec![in alloc; 0; format.size as usize] else {
         return Err(MakeStop::NoMemory);
