@@ -8,3 +8,4 @@ pub mod PairedLists
 pub mod FlowsTogether
 pub mod EndsAreShared
 pub mod EndsOnSlots
+pub mod EnginesStand

@@ -1,5 +1,5 @@
 -- What the counts of engines tell.
-use Rattle.std.specs.Prelude.{ℕ, List, map}
+use Rattle.std.specs.Prelude.{ℕ, ◌≤◌, List, [], ◌∷◌, map}
 use Rattle.vc_crew.specs.Rising.{RoseTogether}
 
 -- the counts of an engine: its runs without fault, and its faults
@@ -24,3 +24,10 @@ HaveRun times before after =
 abbrev pub HaveFailed : ℕ → List EngineCounts → List EngineCounts → Type 0
 HaveFailed times before after =
     RoseTogether times (map (λ (e : EngineCounts). e.faults) before) (map (λ (e : EngineCounts). e.faults) after)
+
+-- The engines are as many as before, and at each place neither count is below what it was.
+abbrev pub NoneFell : List EngineCounts → List EngineCounts → Type 0
+NoneFell [] [] = Unit {0}
+NoneFell (e ∷ es) (e' ∷ es') = (e.runs ≤ e'.runs) × (e.faults ≤ e'.faults) × NoneFell es es'
+NoneFell [] (e' ∷ es') = ⊥
+NoneFell (e ∷ es) [] = ⊥

@@ -1,7 +1,7 @@
 //! One caller beside workers.
 
 ghost use Rattle.std.specs.Prelude.{◌≡◌, ◌≤◌, ℕ, IfOk, IfErr, take, drop, vec_len};
-ghost use Rattle.vc_crew.specs.Counts.{counts_of};
+ghost use Rattle.vc_crew.specs.Counts.{counts_of, NoneFell};
 ghost use Rattle.vc_crew.specs.Workers.{HaveWorked};
 ghost use Rattle.vc_crew.specs.Flowing.{ArePaired, HasFlowed};
 ghost use Rattle.vc_crew.specs.Ready.{IsCallerReady, IsCrewReady};
@@ -78,6 +78,7 @@ pub fn run_beside<R: Threads + Wait + Sync, E: Engine + Send, F: Flow>(
         IfOk result.end (λ end. RanBeside F.does flow result.flow end before after) }
     ensures refused { IfErr result.end (λ _. (result.flow ≡ flow) × (engines.new ≡ engines.old)) }
     ensures crew { vec_len engines.new ≡ vec_len engines.old }
+    ensures stand { let counts = counts_of E.run_count E.fault_count in NoneFell (counts engines.old.items) (counts engines.new.items) }
     ensures others { drop workers engines.new.items ≡ drop workers engines.old.items }
 {
     let Ok(opened) = open_site(alloc, 1, workers) else {

@@ -1,7 +1,7 @@
 //! Several flows together beside workers.
 
 ghost use Rattle.std.specs.Prelude.{◌≡◌, ◌≤◌, ℕ, All, IfOk, IfErr, take, drop, vec_len};
-ghost use Rattle.vc_crew.specs.Counts.{counts_of};
+ghost use Rattle.vc_crew.specs.Counts.{counts_of, NoneFell};
 ghost use Rattle.vc_crew.specs.Workers.{HaveWorked};
 ghost use Rattle.vc_crew.specs.Flowing.{HaveFlowed};
 ghost use Rattle.vc_crew.specs.Ready.{IsCallerFree, IsCrewReady, IsTeamReady};
@@ -75,6 +75,7 @@ pub fn run_together<R: Threads + Wait + Sync, E: Engine + Send, F: Flow + Send>(
         IfOk result (λ ends. RanTogether F.does flows.old.items flows.new.items ends.items before after) }
     ensures refused { IfErr result (λ _. (flows.new ≡ flows.old) × (engines.new ≡ engines.old)) }
     ensures crew { vec_len engines.new ≡ vec_len engines.old }
+    ensures stand { let counts = counts_of E.run_count E.fault_count in NoneFell (counts engines.old.items) (counts engines.new.items) }
     ensures others { drop workers engines.new.items ≡ drop workers engines.old.items }
 {
     let opened = open_site(alloc, flows.len() as u32, workers)?;

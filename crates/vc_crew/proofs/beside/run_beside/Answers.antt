@@ -6,6 +6,8 @@ use Rattle.vc_crew.specs.Flowing.{MayFlow, HasFlowed}
 use Rattle.vc_crew.specs.Sites.{device_of}
 use Rattle.vc_crew.proofs.OneMoreWorker.{at_device, only_handle, handles_of}
 use Rattle.vc_crew.proofs.FlowBesideWorkers.{are_workers, all_ran, others_kept}
+use Rattle.vc_crew.specs.Counts.{counts_of}
+use Rattle.vc_crew.proofs.EnginesStand.{none_touched, all_stand}
 use Rattle.vc_crew.proofs.StartedFlows.{may_begin}
 use Rattle.vc_crew.proofs.PairedLists.{all_more, all_none, paired_last}
 use Rattle.vc_crew.proofs.beside.run_beside.Goals as goal
@@ -76,6 +78,20 @@ returns-clause-ran g c =
     all_ran g.E.Engine.run_count g.E.Engine.fault_count g.F.Flow.does c.args.flow done.flow done.end device c.in-Some.handle done.handle
     c.push_reserved.new.self.items c.close_site-core.result run.result.crew.jobs.items c.replace.result.items run.result.crew.engines.items
     c.args.engines.now.items c.args.workers only.0 one (ap vec_items c.replace.ensures.value) number flowed worked c.close_site-core.ensures
+
+pub returns-in_default-clause-stand : goal.returns-in_default-clause-stand
+returns-in_default-clause-stand g c =
+    none_touched (counts_of g.E.Engine.run_count g.E.Engine.fault_count c.args.engines.now.items)
+
+pub returns-in_default-make-clause-stand : goal.returns-in_default-make-clause-stand
+returns-in_default-make-clause-stand g c =
+    none_touched (counts_of g.E.Engine.run_count g.E.Engine.fault_count c.args.engines.now.items)
+
+pub returns-clause-stand : goal.returns-clause-stand
+returns-clause-stand g c =
+    let run = c.run_scope-run in
+    all_stand g.E.Engine.run_count g.E.Engine.fault_count (device_of c.in-Ok.opened.site) run.result.crew.jobs.items c.replace.result.items
+    run.result.crew.engines.items c.args.engines.now.items (ap vec_items c.replace.ensures.value) run.ensures.worked
 
 pub returns-clause-others : goal.returns-clause-others
 returns-clause-others g c =

@@ -1,5 +1,7 @@
 use Rattle.std.proofs.Common.{rules, ◌≡◌, length, vec_items, refl, ap, arith}
 use Rattle.vc_crew.specs.Sites.{device_of}
+use Rattle.vc_crew.specs.Counts.{counts_of}
+use Rattle.vc_crew.proofs.EnginesStand.{none_touched, all_stand}
 use Rattle.vc_crew.proofs.FlowBesideWorkers.{are_workers, others_kept}
 use Rattle.vc_crew.proofs.PairedLists.{all_same}
 use Rattle.vc_crew.proofs.FlowsTogether.{flowed_handles, all_together}
@@ -53,6 +55,24 @@ returns-clause-ran g c =
     c.args.flows.now.items team.ends.items team.handles.items c.close_site-core.result crew.jobs.items c.replace-2.result.items crew.engines.items
     c.args.engines.now.items c.args.workers (ap vec_items c.replace.ensures.value) (ap vec_items c.replace-2.ensures.value) number
     c.run_scope-ran.ensures.flowed c.run_scope-ran.ensures.worked c.close_site-core.ensures
+
+pub returns-in_err-opened-clause-stand : goal.returns-in_err-opened-clause-stand
+returns-in_err-opened-clause-stand g c =
+    none_touched (counts_of g.E.Engine.run_count g.E.Engine.fault_count c.args.engines.now.items)
+
+pub returns-in_err-caller-clause-stand : goal.returns-in_err-caller-clause-stand
+returns-in_err-caller-clause-stand g c =
+    none_touched (counts_of g.E.Engine.run_count g.E.Engine.fault_count c.args.engines.now.items)
+
+pub returns-in_default-clause-stand : goal.returns-in_default-clause-stand
+returns-in_default-clause-stand g c =
+    none_touched (counts_of g.E.Engine.run_count g.E.Engine.fault_count c.args.engines.now.items)
+
+pub returns-clause-stand : goal.returns-clause-stand
+returns-clause-stand g c =
+    let crew = c.run_scope-ran.result.run.crew in
+    all_stand g.E.Engine.run_count g.E.Engine.fault_count (device_of c.in_ok-opened.opened.site) crew.jobs.items c.replace-2.result.items
+    crew.engines.items c.args.engines.now.items (ap vec_items c.replace-2.ensures.value) c.run_scope-ran.ensures.worked
 
 pub returns-clause-others : goal.returns-clause-others
 returns-clause-others g c =
