@@ -15,7 +15,7 @@ use Rattle.vc_top.specs.Audits.{longest_audit, script_in, report_in, verdict_lin
 use Rattle.vc_words.specs.declared.command.Command.{Command}
 use Rattle.vc_words.specs.declared.command.Command.TheVariants.{Audit}
 use Rattle.vc_words.specs.declared.command.AuditOptions.{AuditOptions}
-use Rattle.vc_top.specs.Commands.{AuditDoes, Does, IsNotARun}
+use Rattle.vc_top.specs.Commands.{AuditDoes, Does, IsNotARun, IsVerdict}
 use Rattle.vc_top.specs.Ends.{ReadAtMost}
 use Rattle.vc_top.specs.Engines.{OneRose}
 use Rattle.vc_top.specs.Input.{WasRead, Stopped}
@@ -167,10 +167,10 @@ complete_audit slots input left old new before now (BadMessage n) r0 r1 s0 s1 e 
 pub audit_does :
     (slots : ℕ) (had left old new : Option (List ℕ)) (r0 r1 s0 s1 : ℕ) (before now : EngineCounts) (status : Status)
     → IfSome had (λ input. AuditEnds slots input left old new status) → (status ≡ ReadFault → Rose r0 r1)
-    → (status ≡ WriteFault → Rose s0 s1) → (status ≡ EngineFault → Rose before.faults now.faults)
+    → (status ≡ WriteFault → Rose s0 s1) → (status ≡ EngineFault → Rose before.faults now.faults) → (IsVerdict status → (r1 ≡ r0) × (s1 ≡ s0))
     → AuditDoes slots (record { before = seen had r0 old s0 (before ∷ []); after = seen left r1 new s1 (now ∷ []); status = status })
-audit_does slots had left old new r0 r1 s0 s1 before now status e a b c =
-    record { ends = e; engine_fault = λ f. inl (c f); completes = completes had e }
+audit_does slots had left old new r0 r1 s0 s1 before now status e a b c q =
+    record { ends = e; engine_fault = λ f. inl (c f); quiet = λ f. (let both = q f in record { source = both.0; sink = both.1 }); completes = completes had e }
   where
     completes :
         (had : Option (List ℕ)) → IfSome had (λ input. AuditEnds slots input left old new status)
@@ -189,7 +189,7 @@ audit_on_first run_count fault_count slots left left' old new r r' s s' e e' [] 
 audit_on_first run_count fault_count slots left left' old new r r' s s' e e' (x ∷ xs) status some first d =
     let on : AuditDoes slots (record { before = seen left r old s (counts_of run_count fault_count (x ∷ [])); after = seen left' r' new s' (counts_of run_count fault_count (e' ∷ [])); status = status }) =
     subst (λ z. AuditDoes slots (record { before = seen left r old s (counts_of run_count fault_count (z ∷ [])); after = seen left' r' new s' (counts_of run_count fault_count (e' ∷ [])); status = status })) first d in
-    record { ends = on.ends; engine_fault = on.engine_fault; completes = on.completes }
+    record { ends = on.ends; engine_fault = on.engine_fault; quiet = λ f. (let both = on.quiet f in record { source = both.source; sink = both.sink }); completes = on.completes }
 
 -- Words that ask for an audit.
 pub audit_asked : (asked : Option Command) (run : Run) (options : AuditOptions) → asked ≡ Some (Audit options) → AuditDoes options.slots run → Does asked run

@@ -21,7 +21,7 @@ use Rattle.vc_top.specs.Commands.{EncodeDoes}
 use Rattle.vc_top.specs.Engines.{OneRose}
 use Rattle.vc_top.specs.Flows.{HasEncoded, status_of_flow}
 use Rattle.vc_top.specs.Runs.{seen}
-use Rattle.vc_top.proofs.FlowEnds.{front_of, one_rose, end_whole, end_read, end_write, end_engine, AreCauses, long_is_long}
+use Rattle.vc_top.proofs.FlowEnds.{front_of, one_rose, end_whole, end_short, end_read, end_write, end_engine, AreCauses, long_is_long}
 
 -- What was written
 
@@ -76,17 +76,35 @@ none_encoded options (Some input) left old = (0, omega arith, Appends-nil old)
 
 -- The counts of the engines
 
+rose_with :
+    (options : EncodeOptions) (short : Bool) (input : List ℕ) (left old new : Option (List ℕ)) (events : List SoloEvent) (runs runs' : List ℕ)
+    → IsWritten options.format (rates_in options.rates) short (Some input) left old new [] events → RoseTogether (good_finishes events) runs runs'
+    → RoseTogether (frame_count options input) runs runs'
+rose_with options short input left old new events runs runs' w rose =
+    let few : frame_count options input ≤ good_finishes events = omega (arith, w.finishes) in
+    record { shares = rose.shares; enough = omega (arith, few, rose.enough); shared = rose.shared }
+
 pub runs_rose :
     (options : EncodeOptions) (end : FlowEnd) (had left old new : Option (List ℕ)) (r r' s s' : ℕ) (events : List SoloEvent) (runs runs' : List ℕ)
     → HasEncoded options.format (rates_in options.rates) end (record { left = had; faults = r }) (record { left = left; faults = r' })
     (record { written = old; faults = s }) (record { written = new; faults = s' }) [] events
-    → RoseTogether (good_finishes events) runs runs' → status_of_flow end ≡ statuses.Fine
+    → RoseTogether (good_finishes events) runs runs' → (status_of_flow end ≡ statuses.Fine) ⊎ (status_of_flow end ≡ statuses.ShortRaw)
     → IfSome had (λ input. RoseTogether (frame_count options input) runs runs')
-runs_rose options end None left old new r r' s s' events runs runs' h rose fine = tt
-runs_rose options end (Some input) left old new r r' s s' events runs runs' h rose fine =
-    let w = h.whole (end_whole end fine) in
-    let few : frame_count options input ≤ good_finishes events = omega (arith, w.finishes) in
-    record { shares = rose.shares; enough = omega (arith, few, rose.enough); shared = rose.shared }
+runs_rose options end None left old new r r' s s' events runs runs' h rose through = tt
+runs_rose options end (Some input) left old new r r' s s' events runs runs' h rose (inl fine) =
+    rose_with options false input left old new events runs runs' (h.whole (end_whole end fine)) rose
+runs_rose options end (Some input) left old new r r' s s' events runs runs' h rose (inr short) =
+    rose_with options true input left old new events runs runs' (h.short (end_short end short)) rose
+
+-- No fault was passed over.
+
+all_quiet :
+    (options : EncodeOptions) (end : FlowEnd) (had left old new : Option (List ℕ)) (r r' s s' : ℕ) (events : List SoloEvent)
+    → HasEncoded options.format (rates_in options.rates) end (record { left = had; faults = r }) (record { left = left; faults = r' })
+    (record { written = old; faults = s }) (record { written = new; faults = s' }) [] events
+    → (status_of_flow end ≡ statuses.Fine) ⊎ (status_of_flow end ≡ statuses.ShortRaw) → (r' ≡ r) × (s' ≡ s)
+all_quiet options end had left old new r r' s s' events h (inl fine) = h.whole_quiet (end_whole end fine)
+all_quiet options end had left old new r r' s s' events h (inr short) = h.short_quiet (end_short end short)
 
 -- Causes
 
@@ -153,6 +171,7 @@ encode_does options end had left old new r r' s s' events before after h ran fai
     record {
       ends = ends;
       runs = λ fine. runs_rose options end had left old new r r' s s' events runs runs' h ran fine;
+      quiet = λ through. (let both = all_quiet options end had left old new r r' s s' events h through in record { source = both.0; sink = both.1 });
       engine_fault = causes.engine;
       completes = encode_completes options had left old new (status_of_flow end) r r' s s' faults faults' ends causes;
     }
@@ -167,7 +186,8 @@ pub encode_refused : (options : EncodeOptions) (had left old new : Option (List 
 encode_refused options had left old new r r' s s' before after same =
     record {
       ends = subst (λ z. IfSome had (λ input. EncodeEnds options input left old z statuses.NoMemory)) (sym same) (none_encoded options had left old);
-      runs = λ fine. absurd (cc);
+      runs = λ through. absurd (not_through through);
+      quiet = λ through. absurd (not_through through);
       engine_fault = λ e. absurd (cc);
       completes = any_memory had;
     }
@@ -180,3 +200,7 @@ encode_refused options had left old new r r' s s' before after same =
         → (statuses.NoMemory ≡ statuses.Fine) ⊎ (statuses.NoMemory ≡ statuses.NoMemory))
     any_memory None = tt
     any_memory (Some input) = λ good x y z. inr refl
+
+    not_through : (statuses.NoMemory ≡ statuses.Fine) ⊎ (statuses.NoMemory ≡ statuses.ShortRaw) → ⊥
+    not_through (inl e) = cc
+    not_through (inr e) = cc

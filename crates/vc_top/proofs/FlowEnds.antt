@@ -56,6 +56,16 @@ end_whole EngineFault e = absurd (cc)
 end_whole TooLong e = absurd (cc)
 end_whole NoMemory e = absurd (cc)
 
+pub end_short : (end : FlowEnd) → status_of_flow end ≡ statuses.ShortRaw → end ≡ ShortRaw
+end_short ShortRaw e = refl
+end_short Whole e = absurd (cc)
+end_short Damaged e = absurd (cc)
+end_short ReadFault e = absurd (cc)
+end_short WriteFault e = absurd (cc)
+end_short EngineFault e = absurd (cc)
+end_short TooLong e = absurd (cc)
+end_short NoMemory e = absurd (cc)
+
 pub end_damaged : (end : FlowEnd) → status_of_flow end ≡ statuses.Damaged → end ≡ Damaged
 end_damaged Damaged e = refl
 end_damaged Whole e = absurd (cc)

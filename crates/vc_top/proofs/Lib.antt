@@ -5,6 +5,7 @@ mod AuditsEnd
 mod WiresEnd
 mod ReadsJoin
 mod EncodingEnds
+mod EnginesStand
 mod SharingEnds
 mod DecodingEnds
 mod FlowEnds

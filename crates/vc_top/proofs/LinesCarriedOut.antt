@@ -15,7 +15,7 @@ use Rattle.vc_model.specs.Script.{Asked}
 use Rattle.vc_desk.specs.declared.desk.Desk.{Desk}
 use Rattle.vc_top.specs.declared.script.LineStop.{LineStop}
 use Rattle.vc_top.specs.declared.script.LineStop.TheVariants as stops
-use Rattle.vc_top.specs.declared.status.Status.TheVariants.{WriteFault}
+use Rattle.vc_top.specs.declared.status.Status.TheVariants.{Fine, WriteFault}
 use Rattle.vc_desk.specs.Asking.{asks_line, asks_lines, with_rest}
 use Rattle.vc_desk.specs.Carries.{finishes, is_finish, IsCounted}
 use Rattle.vc_worker.specs.Turns.{RoseBy}
@@ -107,7 +107,10 @@ pub record SoFar (slots : ℕ) (script rest : List ℕ) (number : ℕ) (faulted 
   pub counted : IsCounted events r0 r1 f0 f1
   pub none_yet : faulted ≡ false → finishes true events ≡ 0
   pub some_yet : faulted ≡ true → 0 < finishes true events
+  pub runs_stay : r0 ≤ r1
+  pub faults_stay : f0 ≤ f1
   pub sink_later : sink_before ≤ sink_now
+  pub quiet : sink_now ≡ sink_before
 
 appends_nothing : (old : Option (List ℕ)) → Appends old old []
 appends_nothing None = tt
@@ -128,7 +131,10 @@ not_begun slots script desk old runs faults sink at steps = record {
   counted = record { ran = inl (omega arith); failed = inl (omega arith) };
   none_yet = λ e. refl;
   some_yet = λ e. absurd (cc);
+  runs_stay = omega arith;
+  faults_stay = omega arith;
   sink_later = omega arith;
+  quiet = refl;
 }
 
 appends_both : (old mid new : Option (List ℕ)) (xs ys : List ℕ) → Appends old mid xs → Appends mid new ys → Appends old new (xs ++ ys)
@@ -151,9 +157,9 @@ pub line_more : (slots : ℕ) (script rest after line : List ℕ) (number : ℕ)
     → SoFar slots script rest number faulted desk old mid r0 r1 f0 f1 s0 s1
     → lines rest ≡ line ∷ lines after → length after < length rest
     → ((history : List DeviceEvent) → IsDesk slots history desk → LineDone slots history line mid written fault r1 r2 f1 f2 new)
-    → new.core.steps ≤ desk.core.steps + 2 → s1 ≤ s2
+    → new.core.steps ≤ desk.core.steps + 2 → s1 ≤ s2 → s2 ≡ s1 → r1 ≤ r2 → f1 ≤ f2
     → SoFar slots script after (number + 1) (faulted || fault) new old written r0 r2 f0 f2 s0 s2
-line_more slots script rest after line number faulted fault desk new old mid written r0 r1 r2 f0 f1 f2 s0 s1 s2 so_far first shorter doing more later =
+line_more slots script rest after line number faulted fault desk new old mid written r0 r1 r2 f0 f1 f2 s0 s1 s2 so_far first shorter doing more later still r f =
     let done = doing so_far.events so_far.at in
     let next = next_of number (lines script) (lines after) line (so_far.left ∙ first) in
     let made = done.made in
@@ -171,7 +177,10 @@ line_more slots script rest after line number faulted fault desk new old mid wri
       counted = counted_both so_far.events made.events r0 r1 r2 f0 f1 f2 so_far.counted made.counted;
       none_yet = λ e. finishes_both true so_far.events made.events ∙ none_of faulted fault (finishes true so_far.events) (finishes true made.events) so_far.none_yet made.failed e;
       some_yet = λ e. subst (λ n. 0 < n) (sym (finishes_both true so_far.events made.events)) (some_of faulted fault (finishes true so_far.events) (finishes true made.events) so_far.some_yet made.failed e);
+      runs_stay = omega (arith, so_far.runs_stay, r);
+      faults_stay = omega (arith, so_far.faults_stay, f);
       sink_later = omega (arith, so_far.sink_later, later);
+      quiet = still ∙ so_far.quiet;
     }
 
 -- Ends
@@ -290,6 +299,12 @@ write_cause stops.WriteFault number s0 s1 s2 e rose later = rose_later s0 s1 s2 
 pub end_cause : (faulted : Bool) → status_at_end faulted ≡ WriteFault → ⊥
 end_cause true e = cc
 end_cause false e = cc
+
+-- A script that stops at a line doesn't end well.
+pub no_stop_is_fine : (stop : LineStop) (number : ℕ) → status_of stop number ≡ Fine → ⊥
+no_stop_is_fine stops.Bad number e = cc
+no_stop_is_fine stops.NoMemory number e = cc
+no_stop_is_fine stops.WriteFault number e = cc
 
 -- nothing was carried out
 pub none_written : (slots : ℕ) (ls : List (List ℕ)) (old : Option (List ℕ)) (counts_now : EngineCounts) → FrontWritten slots ls old old counts_now counts_now

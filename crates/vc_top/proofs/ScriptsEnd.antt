@@ -164,10 +164,10 @@ complete_end slots input left old new before now (BadLine n) r0 r1 s0 s1 e a b c
 pub script_does :
     (slots : ℕ) (had left old new : Option (List ℕ)) (r0 r1 s0 s1 : ℕ) (before now : EngineCounts) (status : Status)
     → IfSome had (λ input. ScriptEnds slots input left old new before now status) → (status ≡ ReadFault → Rose r0 r1)
-    → (status ≡ WriteFault → Rose s0 s1) → (status ≡ EngineFault → Rose before.faults now.faults)
+    → (status ≡ WriteFault → Rose s0 s1) → (status ≡ EngineFault → Rose before.faults now.faults) → (status ≡ Fine → (r1 ≡ r0) × (s1 ≡ s0))
     → ScriptDoes slots (record { before = seen had r0 old s0 (before ∷ []); after = seen left r1 new s1 (now ∷ []); status = status })
-script_does slots had left old new r0 r1 s0 s1 before now status e a b c =
-    record { ends = e; engine_fault = λ f. inl (c f); completes = completes had e }
+script_does slots had left old new r0 r1 s0 s1 before now status e a b c q =
+    record { ends = e; engine_fault = λ f. inl (c f); quiet = λ f. (let both = q f in record { source = both.0; sink = both.1 }); completes = completes had e }
   where
     completes :
         (had : Option (List ℕ)) → IfSome had (λ input. ScriptEnds slots input left old new before now status)
@@ -182,4 +182,4 @@ pub on_first :
     → ScriptDoes slots (record { before = seen left r old s (e ∷ []); after = seen left' r' new s' (e' ∷ []); status = status })
     → ScriptDoes slots (record { before = seen left r old s (e ∷ rest); after = seen left' r' new s' (e' ∷ rest'); status = status })
 on_first slots left left' old new r r' s s' e e' rest rest' status d =
-    record { ends = d.ends; engine_fault = d.engine_fault; completes = d.completes }
+    record { ends = d.ends; engine_fault = d.engine_fault; quiet = λ f. (let both = d.quiet f in record { source = both.source; sink = both.sink }); completes = d.completes }

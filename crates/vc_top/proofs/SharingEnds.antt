@@ -274,19 +274,20 @@ pub share_refused :
     (options : ShareOptions) (old : Option (List ℕ)) (s s' : ℕ) (before after : List EngineCounts)
     → ShareDoes options (record { before = seen None 0 old s before; after = seen None 0 old s' after; status = statuses.NoMemory })
 share_refused options old s s' before after =
-    record { ends = refl; runs = λ e. absurd (cc); engine_fault = λ e. absurd (cc); completes = λ y z. inr refl }
+    record { ends = refl; runs = λ e. absurd (cc); quiet = λ e. absurd (cc); engine_fault = λ e. absurd (cc); completes = λ y z. inr refl }
 
 pub share_wrote :
     (options : ShareOptions) (flows : List ShareFlow) (ends : List (Result Tally FlowEnd)) (slots : List (List SoloEvent)) (old new : Option (List ℕ)) (s s' : ℕ) (before after : List EngineCounts)
     → EachRan Shares (map (flow_for options) (range_with_len 0 options.contexts)) flows ends slots → AreTallied ends
-    → Appends old new (share_lines options) → HaveRun (sum_by good_finishes slots) (take options.workers before) (take options.workers after)
+    → Appends old new (share_lines options) → s' ≡ s → HaveRun (sum_by good_finishes slots) (take options.workers before) (take options.workers after)
     → ShareDoes options (record { before = seen None 0 old s before; after = seen None 0 new s' after; status = statuses.Fine })
-share_wrote options flows ends slots old new s s' before after ran good wrote rose =
+share_wrote options flows ends slots old new s s' before after ran good wrote still rose =
     let runs = map (λ (e : EngineCounts). e.runs) (take options.workers before) in
     let runs' = map (λ (e : EngineCounts). e.runs) (take options.workers after) in
     record {
       ends = wrote;
       runs = λ e. shared_runs options flows ends slots runs runs' ran good rose;
+      quiet = λ e. record { source = refl; sink = still };
       engine_fault = λ e. absurd (cc);
       completes = λ y z. inl refl;
     }
@@ -295,7 +296,7 @@ pub share_cut :
     (options : ShareOptions) (old new : Option (List ℕ)) (s s' : ℕ) (before after : List EngineCounts) → AppendsFront old new (share_lines options)
     → Rose s s' → ShareDoes options (record { before = seen None 0 old s before; after = seen None 0 new s' after; status = statuses.WriteFault })
 share_cut options old new s s' before after wrote rose =
-    record { ends = wrote; runs = λ e. absurd (cc); engine_fault = λ e. absurd (cc); completes = λ y z. absurd (y rose) }
+    record { ends = wrote; runs = λ e. absurd (cc); quiet = λ e. absurd (cc); engine_fault = λ e. absurd (cc); completes = λ y z. absurd (y rose) }
 
 pub share_stopped :
     (options : ShareOptions) (flows : List ShareFlow) (ends : List (Result Tally FlowEnd)) (slots : List (List SoloEvent)) (old : Option (List ℕ))
@@ -310,6 +311,7 @@ share_stopped options flows ends slots old s s' before after stop ran why rose =
     record {
       ends = share_stops options flows ends slots old stop ran why;
       runs = λ e. absurd (never_fine (status_of_flow stop) (share_status options flows ends slots stop ran why) e);
+      quiet = λ e. absurd (never_fine (status_of_flow stop) (share_status options flows ends slots stop ran why) e);
       engine_fault = failed;
       completes = stop_completes s s' faults faults' stop (shared_refusals options flows ends slots stop ran why) failed;
     }
@@ -317,7 +319,8 @@ share_stopped options flows ends slots old s s' before after stop ran why rose =
 -- Whatever source there is beside it, it does the same.
 pub beside_source :
     (options : ShareOptions) (source source' : SourceTells) (sink sink' : SinkTells) (before after : List EngineCounts) (status : Status)
+    → source'.faults ≡ source.faults
     → ShareDoes options (record { before = seen None 0 sink.written sink.faults before; after = seen None 0 sink'.written sink'.faults after; status = status })
     → ShareDoes options (record { before = seen source.left source.faults sink.written sink.faults before; after = seen source'.left source'.faults sink'.written sink'.faults after; status = status })
-beside_source options source source' sink sink' before after status d =
-    record { ends = d.ends; runs = d.runs; engine_fault = d.engine_fault; completes = d.completes }
+beside_source options source source' sink sink' before after status still d =
+    record { ends = d.ends; runs = d.runs; quiet = λ e. record { source = still; sink = (d.quiet e).sink }; engine_fault = d.engine_fault; completes = d.completes }

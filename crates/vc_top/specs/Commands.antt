@@ -9,7 +9,7 @@ use Rattle.vc_words.specs.declared.command.DecodeOptions.{DecodeOptions}
 use Rattle.vc_words.specs.declared.command.MakeOptions.{MakeOptions}
 use Rattle.vc_words.specs.declared.command.ShareOptions.{ShareOptions}
 use Rattle.vc_top.specs.declared.status.Status.{Status}
-use Rattle.vc_top.specs.declared.status.Status.TheVariants.{Fine, Damaged, EngineFault, NotARun}
+use Rattle.vc_top.specs.declared.status.Status.TheVariants.{Fine, Damaged, ShortRaw, EngineFault, NotARun}
 use Rattle.vc_top.specs.Audits.{AuditEnds, IsGoodAudit}
 use Rattle.vc_top.specs.Decodes.{DecodeEnds, IsGoodStream}
 use Rattle.vc_top.specs.Encodes.{EncodeEnds, IsGoodRaw, frame_count}
@@ -17,7 +17,7 @@ use Rattle.vc_top.specs.Ends.{ScriptEnds, IsGoodScript}
 use Rattle.vc_top.specs.Makes.{MakeEnds}
 use Rattle.vc_top.specs.Shares.{ShareEnds, share_count}
 use Rattle.vc_top.specs.Wires.{WireEnds, AreGoodMessages}
-use Rattle.vc_top.specs.Runs.{Run, OnInput, EnginesRan, EngineFailed, ReadFailed, WriteFailed, EndsWell}
+use Rattle.vc_top.specs.Runs.{Run, OnInput, EnginesRan, EngineFailed, ReadFailed, WriteFailed, IsQuiet, EndsWell}
 
 -- the counts of the first engine, on which a script runs its jobs
 abbrev pub first_engine : List EngineCounts → EngineCounts
@@ -36,6 +36,8 @@ pub record ScriptDoes (slots : ℕ) (run : Run) : Type 0 where
   pub ends : OnInput run (ScriptEnded slots run)
   -- After EngineFault the first engine counts a fault more.
   pub engine_fault : run.status ≡ EngineFault → EngineFailed 1 run
+  -- After Fine no count of faults of the source or of the sink rose.
+  pub quiet : run.status ≡ Fine → IsQuiet run
   -- A good script, where nothing fails outside, ends well.
   pub completes : OnInput run (λ input.
       IsGoodScript slots input → ¬ ReadFailed run → ¬ WriteFailed run → ¬ EngineFailed 1 run → EndsWell run)
@@ -44,8 +46,11 @@ pub record EncodeDoes (options : EncodeOptions) (run : Run) : Type 0 where
   -- The frames of the input's whole pictures are written: all of them after Fine and ShortRaw, else a prefix of them.
   pub ends : OnInput run (λ input.
       EncodeEnds options input run.after.source.left run.before.sink.written run.after.sink.written run.status)
-  -- After Fine the workers' engines ran once for each frame together, or more often.
-  pub runs : run.status ≡ Fine → OnInput run (λ input. EnginesRan options.workers (frame_count options input) run)
+  -- After Fine and ShortRaw the workers' engines ran once for each frame together, or more often.
+  pub runs : (run.status ≡ Fine) ⊎ (run.status ≡ ShortRaw) →
+      OnInput run (λ input. EnginesRan options.workers (frame_count options input) run)
+  -- After these no count of faults of the source or of the sink rose.
+  pub quiet : (run.status ≡ Fine) ⊎ (run.status ≡ ShortRaw) → IsQuiet run
   -- After EngineFault one of the workers' engines counts a fault more.
   pub engine_fault : run.status ≡ EngineFault → EngineFailed options.workers run
   -- Whole pictures, where nothing fails outside, end well.
@@ -68,6 +73,8 @@ pub record DecodeDoes (options : DecodeOptions) (run : Run) : Type 0 where
 pub record MakeDoes (options : MakeOptions) (run : Run) : Type 0 where
   -- The pictures of the generator are written: all of them after Fine, a prefix after WriteFault, else nothing.
   pub ends : MakeEnds options run.before.sink.written run.after.sink.written run.status
+  -- After Fine no count of faults of the source or of the sink rose.
+  pub quiet : run.status ≡ Fine → IsQuiet run
   -- Where no write fails, it ends well.
   pub completes : ¬ WriteFailed run → EndsWell run
 
@@ -78,6 +85,8 @@ pub record ShareDoes (options : ShareOptions) (run : Run) : Type 0 where
   pub runs : run.status ≡ Fine → EnginesRan options.workers (share_count options) run
   -- After EngineFault one of the workers' engines counts a fault more.
   pub engine_fault : run.status ≡ EngineFault → EngineFailed options.workers run
+  -- After Fine no count of faults of the source or of the sink rose.
+  pub quiet : run.status ≡ Fine → IsQuiet run
   -- Where no write and no engine fails, it ends well.
   pub completes : ¬ WriteFailed run → ¬ EngineFailed options.workers run → EndsWell run
 
@@ -90,6 +99,12 @@ abbrev pub IsNotARun : Status → Type 0
 IsNotARun (NotARun line) = ⊤
 IsNotARun status = ⊥
 
+-- A verdict was told: the report is a run, or it is none.
+abbrev pub IsVerdict : Status → Type 0
+IsVerdict Fine = ⊤
+IsVerdict (NotARun line) = ⊤
+IsVerdict status = ⊥
+
 -- the command ended well, or out of memory, or with the verdict that the report is no run
 abbrev pub EndsWithVerdict : Run → Type 0
 EndsWithVerdict run = EndsWell run ⊎ IsNotARun run.status
@@ -99,6 +114,8 @@ pub record AuditDoes (slots : ℕ) (run : Run) : Type 0 where
   pub ends : OnInput run (AuditEnded slots run)
   -- After EngineFault the first engine counts a fault more.
   pub engine_fault : run.status ≡ EngineFault → EngineFailed 1 run
+  -- After a verdict no count of faults of the source or of the sink rose.
+  pub quiet : IsVerdict run.status → IsQuiet run
   -- On a good script with a report, where nothing fails outside, there is a verdict.
   pub completes : OnInput run (λ input.
       IsGoodAudit slots input → ¬ ReadFailed run → ¬ WriteFailed run → ¬ EngineFailed 1 run → EndsWithVerdict run)

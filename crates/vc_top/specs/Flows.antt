@@ -35,6 +35,8 @@ pub record HasEncoded (format : Format) (rates : RunRates) (end : FlowEnd) (sour
   pub write : end ≡ WriteFault → Rose sink.faults sink'.faults
   pub engine : end ≡ EngineFault → faulty_finishes before < faulty_finishes after
   pub long : end ≡ TooLong → IsLong source.left source'.left
+  pub whole_quiet : end ≡ Whole → (source'.faults ≡ source.faults) × (sink'.faults ≡ sink.faults)
+  pub short_quiet : end ≡ ShortRaw → (source'.faults ≡ source.faults) × (sink'.faults ≡ sink.faults)
   pub undamaged : end ≢ Damaged
 
 -- How a coded stream went through a decoder: what was read, written and handed out, and why the flow ended so.

@@ -57,6 +57,11 @@ ReadFailed run = Rose run.before.source.faults run.after.source.faults
 abbrev pub WriteFailed : Run → Type 0
 WriteFailed run = Rose run.before.sink.faults run.after.sink.faults
 
+-- No count of faults of the source or of the sink rose.
+pub record IsQuiet (run : Run) : Type 0 where
+  pub source : run.after.source.faults ≡ run.before.source.faults
+  pub sink : run.after.sink.faults ≡ run.before.sink.faults
+
 -- The command ended well, or out of memory.
 abbrev pub EndsWell : Run → Type 0
 EndsWell run = (run.status ≡ Fine) ⊎ (run.status ≡ NoMemory)

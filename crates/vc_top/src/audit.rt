@@ -5,7 +5,7 @@ ghost use Rattle.vc_base.specs.Counts.{Rose};
 ghost use Rattle.vc_base.specs.Limits.{longest_script, most_slots};
 ghost use Rattle.vc_crew.specs.Counts.{counts_of};
 ghost use Rattle.vc_top.specs.Audits.{AuditTold, LineIsMissing, VerdictTold, verdict_line, verdict_status};
-ghost use Rattle.vc_top.specs.Commands.{AuditDoes};
+ghost use Rattle.vc_top.specs.Commands.{AuditDoes, IsVerdict};
 ghost use Rattle.vc_top.specs.Runs.{seen};
 
 use crate::input::{ReadStop, read_input};
@@ -47,6 +47,7 @@ fn verdict_status(verdict: Verdict) -> Status
 fn tell<K: Sink>(alloc: Global, verdict: Verdict, sink: &mut K) -> Status
     ensures tells { VerdictTold verdict (K.written sink.old) (K.written sink.new) result }
     ensures write { result ≡ Status.WriteFault → Rose (K.faults sink.old) (K.faults sink.new) }
+    ensures quiet { IsVerdict result → K.faults sink.new ≡ K.faults sink.old }
 {
     let Ok(text) = verdict_text(alloc, verdict) else {
         return Status::NoMemory;
@@ -82,6 +83,9 @@ fn judge<K: Sink, E: Engine>(
     ensures told { AuditTold slots input.now (K.written sink.old) (K.written sink.new) result }
     ensures engine { result ≡ Status.EngineFault → Rose (E.fault_count engine.old) (E.fault_count engine.new) }
     ensures write { result ≡ Status.WriteFault → Rose (K.faults sink.old) (K.faults sink.new) }
+    ensures quiet { IsVerdict result → K.faults sink.new ≡ K.faults sink.old }
+    ensures runs_stay { E.run_count engine.old ≤ E.run_count engine.new }
+    ensures faults_stay { E.fault_count engine.old ≤ E.fault_count engine.new }
 {
     let parts = cut(input);
     if parts.script.len() > LONGEST_SCRIPT {
@@ -115,6 +119,8 @@ pub(crate) fn audit_run<S: Source, K: Sink, E: Engine>(
     ensures read { result ≡ Status.ReadFault → Rose (S.faults source.old) (S.faults source.new) }
     ensures write { result ≡ Status.WriteFault → Rose (K.faults sink.old) (K.faults sink.new) }
     ensures words { result ≢ Status.Usage }
+    ensures runs_stay { E.run_count engine.old ≤ E.run_count engine.new }
+    ensures faults_stay { E.fault_count engine.old ≤ E.fault_count engine.new }
 {
     match read_input(alloc, source, LONGEST_AUDIT) {
         Ok(input) => judge(alloc, slots, &input, sink, engine),

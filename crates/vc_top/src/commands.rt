@@ -2,7 +2,7 @@
 
 ghost use Rattle.std.specs.Prelude.{◌≡◌, ◌≢◌, ◌<◌, ◌≤◌, ◌↔◌, ◌∷◌, [], vec_len, drop};
 ghost use Rattle.vc_base.specs.Counts.{Rose};
-ghost use Rattle.vc_crew.specs.Counts.{counts_of};
+ghost use Rattle.vc_crew.specs.Counts.{counts_of, NoneFell};
 ghost use Rattle.vc_top.specs.Commands.{Does, ScriptDoes, AsksNothing, AsksMake, AsksShare};
 ghost use Rattle.vc_top.specs.Engines.{engines_used};
 ghost use Rattle.vc_top.specs.Makes.{MakeEnds};
@@ -44,6 +44,8 @@ pub fn script_run<S: Source, K: Sink, E: Engine>(
     ensures read { result ≡ Status.ReadFault → Rose (S.faults source.old) (S.faults source.new) }
     ensures write { result ≡ Status.WriteFault → Rose (K.faults sink.old) (K.faults sink.new) }
     ensures words { result ≢ Status.Usage }
+    ensures runs_stay { E.run_count engine.old ≤ E.run_count engine.new }
+    ensures faults_stay { E.fault_count engine.old ≤ E.fault_count engine.new }
 {
     match read_input(alloc, source, LONGEST_SCRIPT) {
         Ok(script) => run_lines(alloc, slots, &script, sink, engine),
@@ -58,6 +60,7 @@ fn make_run<K: Sink>(alloc: Global, options: &MakeOptions, sink: &mut K) -> Stat
     requires { IsMake options.now }
     ensures end { MakeEnds options.now (K.written sink.old) (K.written sink.new) result }
     ensures write { result ≡ Status.WriteFault → Rose (K.faults sink.old) (K.faults sink.new) }
+    ensures quiet { result ≡ Status.Fine → K.faults sink.new ≡ K.faults sink.old }
 {
     let MakeOptions {
         format,
@@ -95,6 +98,7 @@ pub fn top<R: Threads + Wait + Sync, S: Source, K: Sink, E: Engine + Send>(
     ensures read { result ≡ Status.ReadFault → Rose (S.faults source.old) (S.faults source.new) }
     ensures write { result ≡ Status.WriteFault → Rose (K.faults sink.old) (K.faults sink.new) }
     ensures crew { vec_len engines.new ≡ 16 }
+    ensures stand { let counts = counts_of E.run_count E.fault_count in NoneFell (counts engines.old.items) (counts engines.new.items) }
     ensures others { drop (engines_used (asked words.now)) engines.new.items ≡ drop (engines_used (asked words.now)) engines.old.items }
 {
     match read_words(words) {

@@ -2,7 +2,7 @@
 
 ghost use Rattle.std.specs.Prelude.{◌≡◌, ◌≢◌, vec_len, drop};
 ghost use Rattle.vc_base.specs.Counts.{Rose};
-ghost use Rattle.vc_crew.specs.Counts.{counts_of};
+ghost use Rattle.vc_crew.specs.Counts.{counts_of, NoneFell};
 ghost use Rattle.vc_top.specs.Commands.{DecodeDoes};
 ghost use Rattle.vc_top.specs.Runs.{seen};
 ghost use Rattle.vc_words.specs.Ranges.{IsDecode};
@@ -37,6 +37,7 @@ pub(crate) fn decode_run<R: Threads + Wait + Sync, S: Source, K: Sink, E: Engine
     ensures write { result ≡ Status.WriteFault → Rose (K.faults sink.old) (K.faults sink.new) }
     ensures words { result ≢ Status.Usage }
     ensures crew { vec_len engines.new ≡ 16 }
+    ensures stand { let counts = counts_of E.run_count E.fault_count in NoneFell (counts engines.old.items) (counts engines.new.items) }
     ensures others { drop options.now.workers engines.new.items ≡ drop options.now.workers engines.old.items }
 {
     let flow = DecodeFlow { source, sink };

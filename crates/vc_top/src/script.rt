@@ -1,6 +1,6 @@
 //! Carries out the lines of a script, one after another.
 
-ghost use Rattle.std.specs.Prelude.{◌≡◌, ◌≢◌, ◌<◌, ◌≤◌, ◌+◌, ◌^◌, ◌||◌, ℕ, List, [], length, IfOk, IfErr, IsErrOf};
+ghost use Rattle.std.specs.Prelude.{◌≡◌, ◌≢◌, ◌<◌, ◌≤◌, ◌+◌, ◌^◌, ◌||◌, ℕ, List, [], length, IfOk, IfErr, OnOk, IsErrOf};
 ghost use Rattle.std.specs.Str.Lines.{lines};
 ghost use Rattle.vc_base.specs.Counts.{Rose};
 ghost use Rattle.vc_base.specs.Device.{DeviceEvent};
@@ -45,6 +45,7 @@ fn do_line<K: Sink, E: Engine>(
     ensures steps { IfOk result (λ fault. desk.new.core.steps ≤ desk.old.core.steps + 2) }
     ensures sink_later { K.faults sink.old ≤ K.faults sink.new }
     ensures write { IsErrOf result LineStop.WriteFault → Rose (K.faults sink.old) (K.faults sink.new) }
+    ensures quiet { OnOk result (K.faults sink.new ≡ K.faults sink.old) }
     ensures runs_stay { E.run_count engine.old ≤ E.run_count engine.new }
     ensures faults_stay { E.fault_count engine.old ≤ E.fault_count engine.new }
 {
@@ -102,6 +103,9 @@ fn do_lines<K: Sink, E: Engine>(
     requires short { length script.now ≤ 1048576 }
     ensures end { LinesEnd slots (lines script.now) (K.written sink.old) (K.written sink.new) (count_of E.run_count E.fault_count engine.old) (count_of E.run_count E.fault_count engine.new) result }
     ensures write { result ≡ Status.WriteFault → Rose (K.faults sink.old) (K.faults sink.new) }
+    ensures quiet { result ≡ Status.Fine → K.faults sink.new ≡ K.faults sink.old }
+    ensures runs_stay { E.run_count engine.old ≤ E.run_count engine.new }
+    ensures faults_stay { E.fault_count engine.old ≤ E.fault_count engine.new }
 {
     let mut rest = script;
     let mut number: u64 = 0;
@@ -130,6 +134,9 @@ pub(crate) fn run_lines<K: Sink, E: Engine>(
     requires short { length script.now ≤ 1048576 }
     ensures end { LinesEnd slots (lines script.now) (K.written sink.old) (K.written sink.new) (count_of E.run_count E.fault_count engine.old) (count_of E.run_count E.fault_count engine.new) result }
     ensures write { result ≡ Status.WriteFault → Rose (K.faults sink.old) (K.faults sink.new) }
+    ensures quiet { result ≡ Status.Fine → K.faults sink.new ≡ K.faults sink.old }
+    ensures runs_stay { E.run_count engine.old ≤ E.run_count engine.new }
+    ensures faults_stay { E.fault_count engine.old ≤ E.fault_count engine.new }
 {
     match Desk::make(alloc, slots) {
         Ok(mut desk) => do_lines(alloc, slots, script, &mut desk, sink, engine),

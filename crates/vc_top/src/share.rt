@@ -3,7 +3,7 @@
 ghost use Rattle.std.specs.Prelude.{◌≡◌, ◌≢◌, ◌⊎◌, ◌++◌, None, Ok, IfOk, IfErr, OnOk, map, vec_len, drop};
 ghost use Rattle.std.specs.List.{range_with_len};
 ghost use Rattle.vc_base.specs.Counts.{Rose};
-ghost use Rattle.vc_crew.specs.Counts.{counts_of};
+ghost use Rattle.vc_crew.specs.Counts.{counts_of, NoneFell};
 ghost use Rattle.vc_top.specs.Commands.{ShareDoes};
 ghost use Rattle.vc_top.specs.Runs.{seen};
 ghost use Rattle.vc_top.specs.Shares.{AreTallied, OneFailed, end_line, end_lines, flow_for};
@@ -102,6 +102,7 @@ pub(crate) fn share_run<R: Threads + Wait + Sync, K: Sink, E: Engine + Send>(
     ensures words { result ≢ Status.Usage }
     ensures reads { result ≢ Status.ReadFault }
     ensures crew { vec_len engines.new ≡ 16 }
+    ensures stand { let counts = counts_of E.run_count E.fault_count in NoneFell (counts engines.old.items) (counts engines.new.items) }
     ensures others { drop options.now.workers engines.new.items ≡ drop options.now.workers engines.old.items }
 {
     let Ok(mut flows) = make_flows(alloc, options) else {

@@ -226,7 +226,8 @@ fn serve_all<S: Source, K: Sink, E: Engine>(
     engine: &mut E,
 ) -> WireEnd
     requires serving { (at : Outside) → IsServing slots [] [] server.old at at }
-    ensures ended { EndsAs slots (S.left source.old) (S.left source.new) (outside K.written E.run_count E.fault_count sink.old engine.old) (outside K.written E.run_count E.fault_count sink.new engine.new) result }
+    ensures ended { let at = outside K.written E.run_count E.fault_count in
+        EndsAs slots (S.left source.old) (S.left source.new) (at sink.old engine.old) (at sink.new engine.new) result }
     ensures read { result ≡ WireEnd.ReadFault → Rose (S.faults source.old) (S.faults source.new) }
     ensures write { result ≡ WireEnd.WriteFault → Rose (K.faults sink.old) (K.faults sink.new) }
     ensures handed { hands_on result ≡ true → IsHandedOn (K.handed sink.new) (K.written sink.new) }
@@ -266,7 +267,8 @@ pub fn wire_run<S: Source, K: Sink, E: Engine>(
     engine: &mut E,
 ) -> WireEnd
     requires slots { (0 < slots) × (slots ≤ most_slots) }
-    ensures ended { EndsAs slots (S.left source.old) (S.left source.new) (outside K.written E.run_count E.fault_count sink.old engine.old) (outside K.written E.run_count E.fault_count sink.new engine.new) result }
+    ensures ended { let at = outside K.written E.run_count E.fault_count in
+        EndsAs slots (S.left source.old) (S.left source.new) (at sink.old engine.old) (at sink.new engine.new) result }
     ensures read { result ≡ WireEnd.ReadFault → Rose (S.faults source.old) (S.faults source.new) }
     ensures write { result ≡ WireEnd.WriteFault → Rose (K.faults sink.old) (K.faults sink.new) }
     ensures handed { hands_on result ≡ true → IsHandedOn (K.handed sink.new) (K.written sink.new) }

@@ -19,7 +19,7 @@ returns-in-Ok-clause-does g c =
     let cause = engine_cause c.args.slots (lines c.deref.result.now) old new before now c.run_lines.result c.run_lines.ensures.end in
     script_does c.args.slots had left old new _ _ _ _ before now c.run_lines.result ends
     (λ e. absurd (never_read c.args.slots (lines c.deref.result.now) old new before now c.run_lines.result c.run_lines.ensures.end e))
-    c.run_lines.ensures.write cause
+    c.run_lines.ensures.write cause (λ e. (c.in-Ok.ensures.quiet, c.run_lines.ensures.quiet e))
 
 pub returns-in-Err-ReadFault-clause-does : goal.returns-in-Err-ReadFault-clause-does
 returns-in-Err-ReadFault-clause-does g c =
@@ -27,7 +27,7 @@ returns-in-Err-ReadFault-clause-does g c =
     let had = g.S.Source.left c.args.source.now in
     let left = g.S.Source.left c.read_input.new.source in
     let ends = read_failed c.args.slots had left (g.K.Sink.written c.args.sink.now) counts counts (search rules) in
-    script_does c.args.slots had left _ _ _ _ _ _ counts counts _ ends (λ _. search rules) (λ e. absurd (cc)) (λ e. absurd (cc))
+    script_does c.args.slots had left _ _ _ _ _ _ counts counts _ ends (λ _. search rules) (λ e. absurd (cc)) (λ e. absurd (cc)) (λ e. absurd (cc))
 
 pub returns-in-Err-TooLong-clause-does : goal.returns-in-Err-TooLong-clause-does
 returns-in-Err-TooLong-clause-does g c =
@@ -35,7 +35,7 @@ returns-in-Err-TooLong-clause-does g c =
     let had = g.S.Source.left c.args.source.now in
     let left = g.S.Source.left c.read_input.new.source in
     let ends = too_long c.args.slots had left (g.K.Sink.written c.args.sink.now) counts counts (search rules) in
-    script_does c.args.slots had left _ _ _ _ _ _ counts counts _ ends (λ e. absurd (cc)) (λ e. absurd (cc)) (λ e. absurd (cc))
+    script_does c.args.slots had left _ _ _ _ _ _ counts counts _ ends (λ e. absurd (cc)) (λ e. absurd (cc)) (λ e. absurd (cc)) (λ e. absurd (cc))
 
 pub returns-in-Err-NoMemory-clause-does : goal.returns-in-Err-NoMemory-clause-does
 returns-in-Err-NoMemory-clause-does g c =
@@ -43,4 +43,4 @@ returns-in-Err-NoMemory-clause-does g c =
     let had = g.S.Source.left c.args.source.now in
     let left = g.S.Source.left c.read_input.new.source in
     let ends = no_memory c.args.slots had left (g.K.Sink.written c.args.sink.now) counts counts (search rules) in
-    script_does c.args.slots had left _ _ _ _ _ _ counts counts _ ends (λ e. absurd (cc)) (λ e. absurd (cc)) (λ e. absurd (cc))
+    script_does c.args.slots had left _ _ _ _ _ _ counts counts _ ends (λ e. absurd (cc)) (λ e. absurd (cc)) (λ e. absurd (cc)) (λ e. absurd (cc))

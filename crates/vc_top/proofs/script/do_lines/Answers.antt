@@ -1,5 +1,5 @@
 use Rattle.std.proofs.Common.{◌≡◌, ◌+◌, ◌<◌, ◌∙◌, length, arith, rules, sym}
-use Rattle.vc_top.proofs.LinesCarriedOut.{not_begun, line_more, stopped_at, write_cause, all_done}
+use Rattle.vc_top.proofs.LinesCarriedOut.{not_begun, line_more, stopped_at, write_cause, no_stop_is_fine, all_done}
 use Rattle.vc_top.proofs.script.do_lines.Goals as goal
 
 pub carrying-init : goal.carrying-init
@@ -31,7 +31,7 @@ carrying-preserved g c =
     (g.E.Engine.run_count c.do_line.new.engine) (g.E.Engine.fault_count c.args.engine.now) (g.E.Engine.fault_count c.carrying.engine)
     (g.E.Engine.fault_count c.do_line.new.engine) (g.K.Sink.faults c.args.sink.now) (g.K.Sink.faults c.carrying.sink)
     (g.K.Sink.faults c.do_line.new.sink) c.carrying.invariant c.next_line.ensures.first c.next_line.ensures.shorter c.in-Ok.ensures.done
-    c.in-Ok.ensures.steps c.in-Ok.ensures.sink_later)
+    c.in-Ok.ensures.steps c.in-Ok.ensures.sink_later c.in-Ok.ensures.quiet c.in-Ok.ensures.runs_stay c.in-Ok.ensures.faults_stay)
 
 pub returns-in-Err-clause-end : goal.returns-in-Err-clause-end
 returns-in-Err-clause-end g c =
@@ -56,3 +56,21 @@ pub returns-in-Err-clause-write : goal.returns-in-Err-clause-write
 returns-in-Err-clause-write g c = λ e.
     write_cause c.in-Err.stop (c.carrying.number + 1) (g.K.Sink.faults c.args.sink.now) (g.K.Sink.faults c.carrying.sink)
     (g.K.Sink.faults c.do_line.new.sink) (sym c.stop_status.ensures ∙ e) c.in-Err.ensures.write c.carrying.invariant.sink_later
+
+pub returns-in-Err-clause-quiet : goal.returns-in-Err-clause-quiet
+returns-in-Err-clause-quiet g c = λ e. absurd (no_stop_is_fine c.in-Err.stop (c.carrying.number + 1) (sym c.stop_status.ensures ∙ e))
+
+pub returns-clause-quiet : goal.returns-clause-quiet
+returns-clause-quiet g c = λ _. c.carrying.invariant.quiet
+
+pub returns-clause-runs_stay : goal.returns-clause-runs_stay
+returns-clause-runs_stay g c = c.carrying.invariant.runs_stay
+
+pub returns-clause-faults_stay : goal.returns-clause-faults_stay
+returns-clause-faults_stay g c = c.carrying.invariant.faults_stay
+
+pub returns-in-Err-clause-runs_stay : goal.returns-in-Err-clause-runs_stay
+returns-in-Err-clause-runs_stay g c = omega (arith, c.carrying.invariant.runs_stay, c.in-Err.ensures.runs_stay)
+
+pub returns-in-Err-clause-faults_stay : goal.returns-in-Err-clause-faults_stay
+returns-in-Err-clause-faults_stay g c = omega (arith, c.carrying.invariant.faults_stay, c.in-Err.ensures.faults_stay)

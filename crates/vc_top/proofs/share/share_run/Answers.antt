@@ -11,11 +11,16 @@ use Rattle.vc_top.specs.declared.status.Status.{Status}
 use Rattle.vc_top.specs.Commands.{ShareDoes}
 use Rattle.vc_top.specs.Runs.{seen}
 use Rattle.vc_top.specs.Shares.{AreTallied, OneFailed, end_lines}
+use Rattle.vc_top.proofs.EnginesStand.{all_stand}
 use Rattle.vc_top.proofs.SharingEnds.{Shares, flows_may, shared_lines, share_status, share_refused, share_wrote, share_cut, share_stopped, never_write, never_read}
 use Rattle.vc_top.proofs.share.share_run.Goals as goal
 
 pub returns-in_default-clause-does : goal.returns-in_default-clause-does
 returns-in_default-clause-does g c = share_refused c.args.options.now _ _ _ _ _
+
+pub returns-in_default-clause-stand : goal.returns-in_default-clause-stand
+returns-in_default-clause-stand g c =
+    all_stand g.E.Engine.run_count g.E.Engine.fault_count c.args.engines.now.items
 
 pub run_together-requires-clause-may : goal.run_together-requires-clause-may
 run_together-requires-clause-may g c κs within =
@@ -36,7 +41,7 @@ returns-in-Ok-write_whole-clause-does g c =
     let engines = counts_of g.E.Engine.run_count g.E.Engine.fault_count c.args.engines.now.items in
     let engines' = counts_of g.E.Engine.run_count g.E.Engine.fault_count c.run_together.new.engines.items in
     let wrote = subst (Appends (g.K.Sink.written c.args.sink.now) (g.K.Sink.written c.write_whole.new.sink)) (c.deref-in-Ok-lines_of.ensures.value ∙ whole) c.in-Ok-write_whole.ensures.whole in
-    share_wrote c.args.options.now c.run_together.new.flows.items ends ran.slots _ _ _ _ engines engines' each good wrote ran.ran
+    share_wrote c.args.options.now c.run_together.new.flows.items ends ran.slots _ _ _ _ engines engines' each good wrote c.in-Ok-write_whole.ensures.quiet ran.ran
 
 pub returns-in-Ok-lines_of-clause-does : goal.returns-in-Ok-lines_of-clause-does
 returns-in-Ok-lines_of-clause-does g c =
