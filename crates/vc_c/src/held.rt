@@ -1,33 +1,33 @@
-//! A desk at an address that C keeps.
+//! A desk that lends jobs, at an address that C keeps.
 
 ghost use Rattle.std.specs.Prelude.{◌≡◌, Option, Some, None};
-ghost use Rattle.vc_desk.specs.declared.desk.Desk.{Desk as DeskState};
-ghost use Rattle.vc_c.specs.Held.{desk_held, IsThere};
+ghost use Rattle.vc_c.specs.declared.lender.Lender.{Lender as LenderState};
+ghost use Rattle.vc_c.specs.Held.{lender_held, IsThere};
 
+use crate::lender::Lender;
 use crate::loose::Loose;
 use std::alloc::Global;
 use std::marker::Model;
 use std::ptr::null_mut;
-use vc_desk::Desk;
 
-/// The address of a desk, or of none. The desk is owned: it is freed once it is taken out as a box. What is let go while it has
-/// a desk leaks it.
+/// The address of a lender, or of none. The lender is owned: it is freed once it is taken out as a box. What is let go while it
+/// has a lender leaks it.
 #[repr(C)]
 #[derive(Drop)]
 pub struct Held {
     at: *mut u8,
     alloc: Global,
-    pub ghost desk: { Option DeskState },
+    pub ghost lender: { Option LenderState },
 }
 
 impl Model for Held {
-    ghost also_owns = { λ h. desk_held h.alloc h.at h.desk };
+    ghost also_owns = { λ h. lender_held h.alloc h.at h.lender };
 }
 
 impl Held {
-    /// Holds the desk.
-    pub fn of(loose: Loose<Desk, Global>) -> Held
-        ensures { result.desk ≡ Some loose.value }
+    /// Holds the lender.
+    pub fn of(loose: Loose<Lender, Global>) -> Held
+        ensures { result.lender ≡ Some loose.value }
     {
         let Loose { at, alloc } = loose;
         Held {
@@ -38,7 +38,7 @@ impl Held {
 
     /// Holds none.
     pub fn none(alloc: Global) -> Held
-        ensures { result.desk ≡ None }
+        ensures { result.lender ≡ None }
     {
         Held {
             at: null_mut(),
@@ -46,14 +46,14 @@ impl Held {
         }
     }
 
-    /// Hands the desk back.
-    pub fn into_loose(self) -> Loose<Desk, Global>
-        requires { IsThere self.desk }
-        ensures { self.desk ≡ Some result.value }
+    /// Hands the lender back.
+    pub fn into_loose(self) -> Loose<Lender, Global>
+        requires { IsThere self.lender }
+        ensures { self.lender ≡ Some result.value }
     {
         let Held { at, alloc } = self;
         Loose {
-            at: at as *mut Desk,
+            at: at as *mut Lender,
             alloc,
         }
     }

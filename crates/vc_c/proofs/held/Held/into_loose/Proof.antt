@@ -1,4 +1,4 @@
--- `into_loose` moves the two fields of what is held, and what they own goes with them. That a desk is there says what is recorded,
+-- `into_loose` moves the two fields of what is held, and what they own goes with them. That a lender is there says what is recorded,
 -- so that just a box of it is owned.
 use mathlib.Core.Path.{refl, sym, subst}
 use mathlib.Core.List.{List, [], ◌∷◌, ◌++◌}
@@ -26,10 +26,10 @@ use denote.Triple.Walked.{says, Stays, stay_dropped, walk_of, ends_at, Goes-drop
 use Rattle.std.specs.Prelude.{Option}
 use Rattle.std.proofs.BoxSteps.Form.{D, B, word, box_typed}
 use Rattle.std.proofs.BoxSteps.Steps.{box_out, box_in}
-use Rattle.vc_desk.specs.contracts.desk.Desk as Desk
+use Rattle.vc_c.specs.contracts.lender.Lender as Lender
 use Rattle.vc_c.specs.Held.{IsThere}
 use Rattle.vc_c.specs.contracts.held.Held as Held
-use Rattle.vc_c.proofs.AsBox.{E, FromHeld as From, found}
+use Rattle.vc_c.proofs.LenderAsBox.{E, FromHeld as From, found}
 use Rattle.vc_c.specs.contracts.held.Held.into_loose as F
 use Rattle.vc_c.specs.contracts.held.Held.into_loose.Key.{name as #self}
 use Rattle.vc_c.proofs.held.Held.into_loose.Statement as stated
@@ -47,12 +47,12 @@ module _ {M : Type 1} {𝓤 : Ura M} (𝓛 : Logic 𝓤) (at_mem : Memory → SP
       let Post = (walk_of 𝓛 F.ended stayed (F.clauses 𝓛 at_mem run)).post z in
       let h = z.0.3.0 in
       let To = type_at (F.signature).result tt in
-      qed 𝓛 ((‵ ftrue ⊛ ‵ (fsep (Held.the_row.own_val h z.0.4.0) ftrue)) ∷ raw (fact 𝓤 (IsThere h.desk)) ∷ []) ∵ move ! (1 ∷ []) $ heard ! (IsThere h.desk) (λ there.
-      let x = (found h.desk there).0 in
+      qed 𝓛 ((‵ ftrue ⊛ ‵ (fsep (Held.the_row.own_val h z.0.4.0) ftrue)) ∷ raw (fact 𝓤 (IsThere h.lender)) ∷ []) ∵ move ! (1 ∷ []) $ heard ! (IsThere h.lender) (λ there.
+      let x = (found h.lender there).0 in
       let v : D E = record { ptr = h.at; alloc = h.alloc; value = x } in
       let made : To.Denot = record { at = v.ptr; alloc = v.alloc; value = x } in
       split ! $ drop ! $ fsplit ! $
-      rewrite ! 0 (λ (o : Option Desk.the_row.Denot). ‵ (Held.the_row.own_val (record { at = h.at; alloc = h.alloc; desk = o }) z.0.4.0)) (found h.desk there).1 refl $
+      rewrite ! 0 (λ (o : Option Lender.the_row.Denot). ‵ (Held.the_row.own_val (record { at = h.at; alloc = h.alloc; lender = o }) z.0.4.0)) (found h.lender there).1 refl $
       use1 𝓛 (‵ ((B E).own_val v z.0.4.0)) (id⊢ 𝓤 _) $
       box_out E ! v z.0.4.0 (λ b o hv e ws fa. box_in E ! v b o v.value e refl $ use1 𝓛 (‵ (To.own_val made (word E hv b o ∷ []))) (id⊢ 𝓤 _) $ move ! (1 ∷ 2 ∷ []) $ drop ! $ drop ! $
       let w = word E hv b o in
@@ -61,7 +61,7 @@ module _ {M : Type 1} {𝓤 : Ura M} (𝓛 : Logic 𝓤) (at_mem : Memory → SP
       (qed 𝓛 Γ ∵ enter ! 𝓣.C 𝓣.Λ code.function (w ∷ []) _ $ alloc_all ! (λ ls. pass_all ! refl (box_typed E hv b o fa, tt) $
       sets ! (of_opd ! (get_in ! (fld ! refl (stop !)) (sub ! 0 refl (whole !)))) refl (tt, tt) $ sets ! (of_opd ! (get_in ! (fld ! refl (stop !)) (sub ! 1 refl (whole !)))) refl fa $ sets ! (of_opd ! (get ! refl)) refl (tt, tt) $
       sets ! (agg ! (and_then ! (get ! refl) (and_then ! (get ! refl) (no_more !)))) refl (box_typed E hv b o fa) $ returns ! (look_at ! 0 refl) $ free_all ! refl $
-      suffices ! _ (ends_at 𝓛 F.ended stayed (F.clauses 𝓛 at_mem run) z w made (tt, tt) (tt, tt)) $ says ! (found h.desk there).1 $
+      suffices ! _ (ends_at 𝓛 F.ended stayed (F.clauses 𝓛 at_mem run) z w made (tt, tt) (tt, tt)) $ says ! (found h.lender there).1 $
       nothing ! $ nothing ! $ fjoin ! $ join ! $ nothing ! $ join ! $ done !)))))
 
 pub into_loose_spec : {M : Type 1} → stated.statement M

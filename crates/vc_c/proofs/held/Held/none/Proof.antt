@@ -1,4 +1,4 @@
--- `none` keeps null and the handle. What it makes records that no desk is there, so that these two fields are all that it owns.
+-- `none` keeps null and the handle. What it makes records that no lender is there, so that these two fields are all that it owns.
 use mathlib.Core.Path.{refl, sym, subst}
 use mathlib.Core.List.{List, [], ◌∷◌, ◌++◌}
 use seplogic.Ra.Ura.{Ura}
@@ -27,7 +27,7 @@ use Rattle.std.specs.Prelude.{None}
 use Rattle.std.proofs.alloc.Calls.{handle_tells}
 use Rattle.std.specs.contracts.alloc.Global as Heap
 use Rattle.vc_c.specs.contracts.held.Held as Held
-use Rattle.vc_c.proofs.AsBox.{E, FromHeap, pair, pair_typed, none_in}
+use Rattle.vc_c.proofs.LenderAsBox.{E, FromHeap, pair, pair_typed, none_in}
 use Rattle.vc_c.specs.contracts.held.Held.none as F
 use Rattle.vc_c.specs.contracts.held.Held.none.Key.{name as #self}
 use Rattle.vc_c.proofs.held.Held.none.Statement as stated
@@ -45,7 +45,7 @@ module _ {M : Type 1} {𝓤 : Ura M} (𝓛 : Logic 𝓤) (at_mem : Memory → SP
       let Post = (walk_of 𝓛 F.ended stayed (F.clauses 𝓛 at_mem run)).post z in
       let a = z.0.3.0 in
       let To = type_at (F.signature).result tt in
-      let made : To.Denot = record { at = null_ptr; alloc = a; desk = None } in
+      let made : To.Denot = record { at = null_ptr; alloc = a; lender = None } in
       qed 𝓛 ((‵ ftrue ⊛ ‵ (fsep (Heap.the_row.own_val a z.0.4.0) ftrue)) ∷ raw (emp 𝓤) ∷ []) ∵ split ! $ drop ! $ fsplit ! $
       handle_tells E.al ! a z.0.4.0 (λ hv ea fa. move ! (1 ∷ 2 ∷ []) $ drop ! $ drop ! $ none_in ! null_ptr a hv $
       let w = pair null_ptr hv in
