@@ -117,6 +117,13 @@ fn text_of(alloc: Global, runs: &[Ran; 3]) -> Result<Vec<u8>, Fail> {
     Ok(text)
 }
 
+/// How many of the runs come through, and how many fail.
+fn counts_of(runs: &[Ran; 3]) -> (u64, u64) {
+    let through = runs.iter().filter(|ran| **ran != FAULT).count();
+    let failed = runs.iter().filter(|ran| **ran == FAULT).count();
+    (through as u64, failed as u64)
+}
+
 /// What the script prints with an engine round this one that fails at these runs, how it ends, and how often the engine
 /// ran and failed.
 fn listed<E: Engine>(
@@ -139,9 +146,8 @@ fn listed<E: Engine>(
 fn the_listed_runs_fail_and_no_others(rt: HostRuntime) -> Result<(), Fail> {
     for (fails, runs) in LISTS {
         let wanted = text_of(rt.alloc(), &runs)?;
-        let faults = runs.iter().filter(|ran| **ran == FAULT).count() as u64;
-        let ran = runs.iter().filter(|ran| **ran != FAULT).count() as u64;
-        let status = if faults > 0 {
+        let wanted_counts = counts_of(&runs);
+        let status = if wanted_counts.1 > 0 {
             Status::EngineFault
         } else {
             Status::Fine
@@ -150,7 +156,7 @@ fn the_listed_runs_fail_and_no_others(rt: HostRuntime) -> Result<(), Fail> {
             let (text, ended, counts) = listed(rt.alloc(), fails, inner)?;
             assert_eq!(rt; text.as_slice(), wanted.as_slice(), "failing {fails:?}");
             assert_eq!(rt; ended, status, "failing {fails:?}");
-            assert_eq!(rt; counts, (ran, faults), "failing {fails:?}");
+            assert_eq!(rt; counts, wanted_counts, "failing {fails:?}");
         }
     }
     Ok(())
