@@ -122,3 +122,37 @@ def call_line(line: str, body: bytes) -> str:
     """The line that a script prints for a call, from the reply to it."""
     slot, verb = line.split()[:2]
     return f"{int(slot)} {verb} {told(line, body)}"
+
+
+def apart(script: str) -> list[str]:
+    """The lines of a script that ask for something, each a message: `run` as a claim and a finish."""
+    asking = []
+    for line in script.splitlines():
+        words = line.split()
+        if words and words[0] == "run":
+            asking += [f"claim {words[1]}", f"finish {words[1]}"]
+        elif words and not words[0].startswith("#"):
+            asking.append(line)
+    return asking
+
+
+def asked(line: str) -> bytes:
+    """The message of a line that is one."""
+    jobs = {"claim": CLAIM, "finish": FINISH}
+    words = line.split()
+    return message(jobs[words[0]], int(words[1])) if words[0] in jobs else call(line)
+
+
+def answered(line: str, body: bytes) -> str:
+    """The line that a script prints for such a line, from the reply to its message."""
+    return job_line(body) if line.split()[0] in ("claim", "finish") else call_line(line, body)
+
+
+def bodies(replies: bytes) -> list[bytes]:
+    """The replies of an output that are there whole."""
+    whole = []
+    while len(replies) >= 4 and len(replies) >= 4 + int.from_bytes(replies[:4], "big"):
+        end = 4 + int.from_bytes(replies[:4], "big")
+        whole.append(replies[4:end])
+        replies = replies[end:]
+    return whole

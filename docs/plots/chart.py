@@ -8,7 +8,7 @@ text { font: 12px sans-serif; fill: #5f6973 } .name { font-weight: bold; font-si
 .grid { stroke: #8a97a5; stroke-opacity: 0.35 } .frame { fill: none; stroke: #8a97a5 }
 .curve { fill: none; stroke-width: 2 } .a { stroke: #3a7fc1 } .b { stroke: #c9702a; stroke-dasharray: 7 3 }
 .c { stroke: #3f9a5f; stroke-dasharray: 2 3 } .dot { stroke-width: 1.5; stroke-dasharray: none }
-.dot.a { fill: #3a7fc1 } .dot.b { fill: #c9702a } .dot.c { fill: #3f9a5f }
+.dot.a, .bar.a { fill: #3a7fc1 } .dot.b, .bar.b { fill: #c9702a } .dot.c, .bar.c { fill: #3f9a5f } .bar { stroke: none }
 """
 WIDTH, LEFT, RIGHT = 440, 56, 12
 
@@ -48,7 +48,8 @@ class Panel:
             self.chart.words(LEFT - 6, self.y(tick) + 4, f"{tick:,}", "end")
         for tick in self.across.ticks:
             put(f'<path class="grid" d="M{self.x(tick)},{self.top} V{bottom}"/>')
-            self.chart.words(self.x(tick), bottom + 16, f"{tick:,}", "middle")
+            number = f"{tick:,}"
+            self.chart.words(min(self.x(tick), WIDTH - 4 * len(number)), bottom + 16, number, "middle")
         put(f'<rect class="frame" x="{LEFT}" y="{self.top}" width="{right - LEFT}" height="{self.height}"/>')
         self.chart.words(LEFT, self.top - 7, self.up.words)
         self.chart.words(right, bottom + 33, self.across.words, "end")
@@ -56,6 +57,12 @@ class Panel:
     def curve(self, kind, points):
         way = " ".join(f"{'L' if number else 'M'}{self.x(x)},{self.y(y)}" for number, (x, y) in enumerate(points))
         self.chart.parts.append(f'<path class="curve {kind}" d="{way}"/>')
+
+    def bar(self, kind, place, value, words):
+        """A bar from the left side to a value, a number of lines of 17 below the top, with words behind it."""
+        left, end, top = self.x(self.across.ticks[0]), self.x(value), self.top + 17 * place + 4
+        self.chart.parts.append(f'<rect class="bar {kind}" x="{left}" y="{top}" width="{round(end - left, 1)}" height="11"/>')
+        self.chart.words(end + 5, top + 10, words)
 
     def dot(self, kind, x, y):
         self.chart.parts.append(f'<circle class="dot {kind}" cx="{self.x(x)}" cy="{self.y(y)}" r="3"/>')

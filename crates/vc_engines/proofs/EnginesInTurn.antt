@@ -19,16 +19,23 @@ one_more kind turn es es' e place so_far here is =
 abbrev pub runs_in : {A B C : Type 0} → AnyEngine (CodecEngine A) (CodecEngine B) (CodecEngine C) → ℕ
 runs_in {A} {B} {C} engine = of_any (λ (a : CodecEngine A). a.runs) (λ (b : CodecEngine B). b.runs) (λ (c : CodecEngine C). c.runs) engine
 
-none_at :
-    {E : Type 0} (count : E → ℕ) (es : List E) (e : E) (k : ℕ) (d : E) → All (λ x. count x ≡ 0) es → count e ≡ 0 → k < length (es ++ e ∷ [])
-    → count (slice_index_or (es ++ e ∷ []) k d) ≡ 0
-none_at count [] e zero d none here l = here
-none_at count [] e (suc k) d none here l = absurd (omega (arith, l))
-none_at count (x ∷ es) e zero d none here l = none zero d (omega arith)
-none_at count (x ∷ es) e (suc k) d none here l =
-    none_at count es e k d (λ j f m. none (suc j) f (omega (arith, m))) here (omega (arith, l))
+one_at :
+    {E K : Type 0} (kind : E → K) (is : K) (es : List E) (e : E) (k : ℕ) (d : E) → All (λ x. kind x ≡ is) es → kind e ≡ is → k < length (es ++ e ∷ [])
+    → kind (slice_index_or (es ++ e ∷ []) k d) ≡ is
+one_at kind is [] e zero d all here l = here
+one_at kind is [] e (suc k) d all here l = absurd (omega (arith, l))
+one_at kind is (x ∷ es) e zero d all here l = all zero d (omega arith)
+one_at kind is (x ∷ es) e (suc k) d all here l =
+    one_at kind is es e k d (λ j f m. all (suc j) f (omega (arith, m))) here (omega (arith, l))
 
+-- where all are of a kind, and so is one more, all are
+pub all_and_one :
+    {E K : Type 0} (kind : E → K) (is : K) (es es' : List E) (e : E) → All (λ x. kind x ≡ is) es → kind e ≡ is → es' ≡ es ++ e ∷ []
+    → All (λ x. kind x ≡ is) es'
+all_and_one kind is es es' e all here more = subst (λ l. All (λ x. kind x ≡ is) l) (sym more) (λ k d l. one_at kind is es e k d all here l)
+
+-- where none has run, and one more has not, none has
 pub still_none :
     {E : Type 0} (count : E → ℕ) (es es' : List E) (e : E) → All (λ x. count x ≡ 0) es → count e ≡ 0 → es' ≡ es ++ e ∷ []
     → All (λ x. count x ≡ 0) es'
-still_none count es es' e none here is = subst (λ l. All (λ x. count x ≡ 0) l) (sym is) (λ k d l. none_at count es e k d none here l)
+still_none count es es' e none here is = all_and_one count 0 es es' e none here is

@@ -1,4 +1,4 @@
-//! The engines of the program: lane, plain and fast engines in turn.
+//! The engines of the program: lane, plain and fast engines in turn, or engines of one kind.
 #![tactic(auto)]
 
 mod any;
@@ -7,4 +7,4 @@ mod program;
 mod tests;
 
 pub use any::{AnyEngine, EngineKind};
-pub use program::{ProgramEngine, kind_at, program_engines};
+pub use program::{ProgramEngine, engines_of_kind, kind_at, program_engines};

@@ -56,3 +56,26 @@ pub fn program_engines(alloc: Global, count: u32) -> Result<Vec<ProgramEngine>, 
     }
     Ok(engines)
 }
+
+/// So many engines, all of one kind. None of them has run or failed.
+///
+/// # Errors
+/// `NoMemory` where a growth of memory was refused.
+pub fn engines_of_kind(
+    alloc: Global,
+    kind: EngineKind,
+    count: u32,
+) -> Result<Vec<ProgramEngine>, NoMemory>
+    ensures count { IfOk result (λ engines. vec_len engines ≡ count) }
+    ensures kinds { IfOk result (λ engines. All (λ e. kind_of e ≡ kind) engines.items) }
+    ensures no_runs { IfOk result (λ engines. All (λ e. ⟦<ProgramEngine as Engine>⟧.run_count e ≡ 0) engines.items) }
+    ensures no_faults { IfOk result (λ engines. All (λ e. ⟦<ProgramEngine as Engine>⟧.fault_count e ≡ 0) engines.items) }
+{
+    let mut engines = Vec::new(alloc);
+    for _place in 0..count {
+        if engines.push(engine_of(kind)).is_err() {
+            return Err(NoMemory);
+        }
+    }
+    Ok(engines)
+}

@@ -1,0 +1,4 @@
+pub mod PartsOfResults
+pub mod PicturesGoOver
+pub mod SegmentsAddUp
+pub mod SegmentsGoOn

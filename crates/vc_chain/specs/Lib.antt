@@ -1,0 +1,4 @@
+pub mod Beside
+pub mod Parts
+pub mod Recoded
+pub mod Segments
